@@ -1,0 +1,4 @@
+pub mod Rights
+pub mod Certificates
+pub mod Meaning
+pub mod Laws
