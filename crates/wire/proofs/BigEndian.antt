@@ -12,7 +12,7 @@ use lib.ListN.{length, take, drop, getD}
 use mathlib.Core.Bool.{Bool, cond}
 use mathlib.Core.List.{List, [], _∷_, _++_}
 use mathlib.Core.Path.{_≡_, refl, sym, ap, ap₂, _∙_}
-use native.Mathlib.Nat.{pow-suc}
+use native.Mathlib.Nat.{pow-suc, div-div-eq-div-mul}
 use native.Mathlib.Numerals.{add-one}
 use native.Mathlib.Omega.{arith}
 
@@ -37,6 +37,29 @@ module _ (s : List ℕ) where
   pub number-of-8 : 8 ≤ length s → getD s 0 0 * 72057594037927936 + getD s 1 0 * 281474976710656 + getD s 2 0 * 1099511627776 + getD s 3 0 * 4294967296
       + getD s 4 0 * 16777216 + getD s 5 0 * 65536 + getD s 6 0 * 256 + getD s 7 0 ≡ number 256 (take 8 s)
   number-of-8 h = omega (arith, number-of-4 (omega arith), number-next 4 (omega arith), number-next 5 (omega arith), number-next 6 (omega arith), number-next 7 (omega arith))
+
+-- the bytes of a number, each by one division
+module _ (n : ℕ) where
+  pub bytes-of-2 : (n / 256 % 256) ∷ (n % 256) ∷ [] ≡ bytes 2 n
+  unfolding bytes
+  bytes-of-2 = refl
+
+  pub bytes-of-4 : (n / 16777216 % 256) ∷ (n / 65536 % 256) ∷ (n / 256 % 256) ∷ (n % 256) ∷ [] ≡ bytes 4 n
+  unfolding bytes
+  bytes-of-4 = rw (div-div-eq-div-mul n 256 256, div-div-eq-div-mul n 65536 256)
+
+  pub bytes-of-8 : (n / 72057594037927936 % 256) ∷ (n / 281474976710656 % 256) ∷ (n / 1099511627776 % 256) ∷ (n / 4294967296 % 256)
+      ∷ (n / 16777216 % 256) ∷ (n / 65536 % 256) ∷ (n / 256 % 256) ∷ (n % 256) ∷ [] ≡ bytes 8 n
+  unfolding bytes
+  bytes-of-8 =
+      rw (
+        div-div-eq-div-mul n 256 256,
+        div-div-eq-div-mul n 65536 256,
+        div-div-eq-div-mul n 16777216 256,
+        div-div-eq-div-mul n 4294967296 256,
+        div-div-eq-div-mul n 1099511627776 256,
+        div-div-eq-div-mul n 281474976710656 256,
+      )
 
 -- a number is what its bytes say
 pub number-bytes : (k n : ℕ) → n < 256 ^ k → number 256 (bytes k n) ≡ n

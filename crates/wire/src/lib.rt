@@ -3,3 +3,4 @@ pub mod events;
 pub mod faults;
 pub(crate) mod numbers;
 pub mod reading;
+pub mod writing;
