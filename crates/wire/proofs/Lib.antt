@@ -1,3 +1,8 @@
 pub mod BigEndian
 pub mod Names
 pub mod Appending
+pub mod Parts
+pub mod Numerals
+pub mod Frames
+pub mod Formed
+pub mod Exact

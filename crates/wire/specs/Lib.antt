@@ -2,3 +2,4 @@ pub mod Numbers
 pub mod Faults
 pub mod Format
 pub mod Reading
+pub mod Exact

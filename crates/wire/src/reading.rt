@@ -1,4 +1,5 @@
 // Events from bytes. An event is framed first, that is, its kind and length are settled; then its values are looked at.
+ghost use Rattle.wire.specs.Exact.{Exactly};
 ghost use Rattle.wire.specs.Numbers.{split, then};
 ghost use Rattle.wire.specs.Reading.{takeNames, subjectOf, takeSubject, takeStatement, takeRights, frame, inRange, looked, readEvent, readingOf};
 ghost use mathlib.Core.Path.{_≡_};
@@ -152,7 +153,8 @@ fn read_certificate(bytes: &[u8]) -> Result<(Event, &[u8]), Refusal<'_>>
 
 // The next event and what follows it, or why it is refused.
 pub fn read_event(bytes: &[u8]) -> Result<(Event, &[u8]), Refusal<'_>>
-    ensures { λ r. ⌜ readingOf r ≡ readEvent (now (bytes .entry)) ⌝ }
+    ensures value { λ r. ⌜ readingOf r ≡ readEvent (now (bytes .entry)) ⌝ }
+    ensures exact { λ r. ⌜ Exactly (now (bytes .entry)) (readingOf r) ⌝ }
 {
     let stopped = Refusal {
         fault: Fault::Malformed,

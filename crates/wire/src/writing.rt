@@ -2,6 +2,7 @@
 ghost use Rattle.std.specs.Joined.{joined};
 ghost use Rattle.std.specs.Of.Vec.{vec-items};
 ghost use Rattle.std.specs.Vec.{made};
+ghost use Rattle.wire.specs.Exact.{ReadBack};
 ghost use Rattle.wire.specs.Format.{subjectBytes, statementBytes, certificateBytes, eventBytes};
 ghost use Rattle.wire.specs.Numbers.{bytes};
 ghost use Rattle.std.specs.Results.{isOk};
@@ -82,7 +83,8 @@ fn push_certificate(out: &mut Vec<u8>, certificate: &Certificate) -> Result<(), 
 
 // The bytes of an event, as a new `Vec`; an error where there is no memory for it.
 pub fn event_bytes(heap: Global, event: &Event) -> Result<Vec<u8>, AllocError>
-    ensures { λ r. ⌜ made r (λ v. vec-items v ≡ eventBytes (now (event .entry))) ⌝ }
+    ensures value { λ r. ⌜ made r (λ v. vec-items v ≡ eventBytes (now (event .entry))) ⌝ }
+    ensures read_back { λ r. ⌜ made r (λ v. ReadBack (now (event .entry)) (vec-items v)) ⌝ }
 {
     let mut out = Vec::new(heap);
     match event {

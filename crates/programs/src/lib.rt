@@ -1,0 +1,3 @@
+// What the programs share: arguments and files.
+pub mod arguments;
+pub mod files;
