@@ -1,0 +1,5 @@
+// Tests of the libraries, each over a table of cases.
+#[cfg(test)]
+mod certificates_read;
+#[cfg(test)]
+mod events_refused;
