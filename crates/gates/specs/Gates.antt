@@ -77,6 +77,10 @@ abbrev pub noting : Option Fault → Delivered → Delivered
 noting None d = d
 noting (Some fault) d = (d .0, fault ∷ d .1)
 
+-- with the faults of what came before
+abbrev pub after : List Fault → Delivered → Delivered
+after faults d = (d .0, faults ++ d .1)
+
 -- at most n events, one after the other
 unfoldable pub deliverWithin : ℕ → State → List ℕ → Delivered
 deliverWithin zero g s = (g, [])

@@ -1,6 +1,6 @@
 // Deliveries: bytes that hold events one after the other.
 ghost use Prim.Native.Nat.{_<_};
-ghost use Rattle.gates.specs.Gates.{stateOf, takeFirst, deliver};
+ghost use Rattle.gates.specs.Gates.{stateOf, takeFirst, deliver, after};
 ghost use Rattle.std.specs.Of.Vec.{vec-items};
 ghost use Rattle.std.specs.Vec.{made};
 ghost use Rattle.wire.specs.Reading.{readEvent};
@@ -31,8 +31,16 @@ impl Gate {
     pub fn deliver(self, heap: Global, bytes: &[u8]) -> Result<(Gate, Vec<Fault>), AllocError>
         ensures { λ r. ⌜ made r (λ p. (stateOf (p .0), vec-items (p .1)) ≡ deliver (stateOf self) (now (bytes .entry))) ⌝ }
     {
-        let mut gate = self;
         let mut faults = Vec::new(heap);
+        let gate = self.take_all(bytes, &mut faults)?;
+        Ok((gate, faults))
+    }
+
+    // The same, with the faults added to those of other deliveries.
+    fn take_all(self, bytes: &[u8], faults: &mut Vec<Fault>) -> Result<Gate, AllocError>
+        ensures { λ r. ⌜ made r (λ g. (stateOf g, vec-items (now (faults .exit))) ≡ after (vec-items (now (faults .entry))) (deliver (stateOf self) (now (bytes .entry)))) ⌝ }
+    {
+        let mut gate = self;
         let mut rest = bytes;
         while !rest.is_empty() {
             let (next, fault, behind) = gate.take_first(rest);
@@ -42,6 +50,6 @@ impl Gate {
                 faults.push(fault)?;
             }
         }
-        Ok((gate, faults))
+        Ok(gate)
     }
 }

@@ -5,7 +5,7 @@ use certificates::Subject;
 use std::test::*;
 use wire::events::Event;
 use wire::reading::read_event;
-use wire::writing::event_bytes;
+use writing::event_bytes;
 
 fn same_statement(a: Statement, b: Statement) -> bool {
     match (a, b) {

@@ -10,7 +10,7 @@ use Rattle.wire.proofs.Formed.{formed, fieldsOf, fields-of}
 use Rattle.wire.proofs.Frames.{frame-part}
 use Rattle.wire.proofs.Numerals.{byte-taken, number-part}
 use Rattle.wire.proofs.Parts.{impossible}
-use Rattle.wire.specs.Exact.{Writable, Fields, Fits as FieldsFit, fieldsBytes, certificateOf, Exactly}
+use Rattle.wire.specs.Exact.{Writable, Written-is-read, Fields, Fits as FieldsFit, fieldsBytes, certificateOf, Exactly}
 use Rattle.wire.specs.Format.{eventBytes}
 use Rattle.wire.specs.Numbers.{Taken, bytes, takeNumber}
 use Rattle.wire.specs.Reading.{frame, inRange, Reading, stopped, looked, revoking, readKind, readEvent}
@@ -31,8 +31,7 @@ use mir.Val.{Fits}
 fields-read : (f : Fields) → FieldsFit f → (rest : List ℕ) → readEvent (1 ∷ (fieldsBytes f ++ rest)) ≡ looked (Some (certificateOf f, rest))
 fields-read f fits rest = ap readKind (byte-taken 1 (fieldsBytes f ++ rest)) ∙ ap looked (frame-part .complete f fits rest)
 
--- what is written is read back, whatever follows it
-pub read-back : (e : Event) → Writable e → (rest : List ℕ) → readEvent (eventBytes e ++ rest) ≡ Ok (e, rest)
+pub read-back : Written-is-read
 read-back (Issued c) w rest =
     let so = fields-of c w in
     rw (so .same-bytes, fields-read (fieldsOf c) (so .fits) rest, so .in-range) (ap (λ d. Ok (Issued d, rest)) (so .same))

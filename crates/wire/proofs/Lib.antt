@@ -1,6 +1,5 @@
 pub mod BigEndian
 pub mod Names
-pub mod Appending
 pub mod Parts
 pub mod Numerals
 pub mod Frames

@@ -26,9 +26,9 @@ Writable (Issued c) = WellFormed c
 Writable (Revoked number) = number < 2 ^ 16
 Writable DayPassed = Unit {0}
 
--- written bytes are read as the event again, whatever follows them
-abbrev pub ReadBack : Event → List ℕ → Type 0
-ReadBack e written = Writable e → (rest : List ℕ) → readEvent (written ++ rest) ≡ Ok (e, rest)
+-- What is written of an event is read as that event again, whatever follows it.
+abbrev pub Written-is-read : Type 0
+Written-is-read = (e : Event) → Writable e → (rest : List ℕ) → readEvent (eventBytes e ++ rest) ≡ Ok (e, rest)
 
 -- the fields of a certificate as they stand in its bytes, whatever their values and however many names there are
 pub record Fields : Type 0 where

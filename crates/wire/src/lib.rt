@@ -1,6 +1,6 @@
-// The bytes that come to a gate: faults, events, and how events are read and written.
+// The bytes that come to a gate: faults, events, and how events are read.
 pub mod events;
 pub mod faults;
+pub mod laws;
 pub(crate) mod numbers;
 pub mod reading;
-pub mod writing;

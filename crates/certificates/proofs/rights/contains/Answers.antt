@@ -1,13 +1,10 @@
-use Rattle.certificates.proofs.Bits.{bit-under-mask, bit-past}
+use Rattle.certificates.proofs.Bits.{bit-past}
 use Rattle.certificates.proofs.rights.contains.Needs as need
 use Rattle.std.proofs.shelf.Tests.{lt-leb}
 use lib.Dec.{eqb}
 use Prim.Native.Nat.{_%_}
 use mathlib.Core.Path.{ap, sym, _∙_}
 use native.Mathlib.Omega.{arith}
-
-pub returns-then-right-le-LAST-RIGHT : need.returns-then-right-le-LAST-RIGHT
-returns-then-right-le-LAST-RIGHT c = ap (λ n. eqb n 1) (bit-under-mask (c .args .set) (c .args .right))
 
 pub returns-else-right-le-LAST-RIGHT : need.returns-else-right-le-LAST-RIGHT
 returns-else-right-le-LAST-RIGHT c =

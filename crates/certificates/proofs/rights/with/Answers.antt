@@ -7,8 +7,8 @@ use mathlib.Core.Bool.{_||_}
 use mathlib.Core.Path.{ap, _∙_}
 use native.Mathlib.Omega.{arith}
 
-pub returns-then-right-le-LAST-RIGHT : need.returns-then-right-le-LAST-RIGHT
-returns-then-right-le-LAST-RIGHT c q small =
+pub returns : need.returns
+returns c q small =
     ap (λ n. member q (bitOr (c .args .set) n)) (one-shl (c .args .right) 64 (omega arith))
     ∙ (member-or q (c .args .set) _
     ∙ ap (λ b. member q (c .args .set) || b) (member-power q (c .args .right)))
