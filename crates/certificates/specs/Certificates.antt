@@ -6,9 +6,9 @@ use Rattle.certificates.specs.declared.Statement.{Statement}
 use Rattle.certificates.specs.declared.Statement.the-variants.{Name, Rights}
 use Rattle.certificates.specs.declared.Subject.{Subject}
 use Rattle.std.specs.shelf.Lists.{All}
-use lib.Dec.{leb}
+use lib.Dec.{leb, ltb}
 use lib.ListN.{length, take, drop, replicate}
-use mathlib.Core.Bool.{Bool, false, _&&_}
+use mathlib.Core.Bool.{Bool, true, false, _&&_}
 use mathlib.Core.List.{List}
 use mathlib.Core.Path.{_≡_}
 
@@ -42,6 +42,14 @@ gives right c = states right (c .statement)
 -- once taken back it has the same statement, and no day is both after its first and before its last
 abbrev pub revokedOf : Certificate → Certificate
 revokedOf c = record { issuer = c .issuer; subject = c .subject; first = 1; last = 0; statement = c .statement }
+
+abbrev pub someRight : Statement → Bool
+someRight (Name n) = true
+someRight (Rights set delegable) = ltb 0 set
+
+-- known houses, at most six names, some right
+abbrev pub inRange : Certificate → Bool
+inRange c = leb (c .issuer) 1023 && (leb (c .subject .house) 1023 && (leb (c .subject .count) 6 && someRight (c .statement)))
 
 abbrev pub Sensible : Statement → Type 0
 Sensible (Name n) = n < 2 ^ 16

@@ -1,6 +1,6 @@
 // A certificate is what one house states for a span of days: what one of its names stands for, or who has rights.
 ghost use Prim.Native.Nat.{ℕ};
-ghost use Rattle.certificates.specs.Certificates.{valid, Valid, gives, Gives, revokedOf};
+ghost use Rattle.certificates.specs.Certificates.{inRange, valid, Valid, gives, Gives, revokedOf};
 ghost use Rattle.std.specs.Orderings.{Decides};
 ghost use mathlib.Core.Bool.{Bool};
 ghost use mathlib.Core.Path.{_≡_};
@@ -43,6 +43,20 @@ pub struct Certificate {
 }
 
 impl Certificate {
+    // Whether its values are those that a certificate may have.
+    pub fn in_range(&self) -> bool
+        ensures { λ r. ⌜ r ≡ inRange (now (self .entry)) ⌝ }
+    {
+        let some_right = match self.statement {
+            Statement::Name(_) => true,
+            Statement::Rights { rights, .. } => rights > 0,
+        };
+        self.issuer <= LAST_HOUSE
+            && self.subject.house <= LAST_HOUSE
+            && usize::from(self.subject.count) <= MOST_NAMES
+            && some_right
+    }
+
     // Whether the certificate is valid on `day`.
     pub fn valid_on(&self, day: u32) -> bool
         ensures value { λ r. ⌜ r ≡ valid day (now (self .entry)) ⌝ }

@@ -67,7 +67,7 @@ fn read_as_written(rt: LibcRuntime) -> Result<(), Fail> {
     };
     read_and_written(
         &rt,
-        &[1, 0, 0, 0, 0, 0, 0, 0, 0, 0, 0, 0, 0, 0, 0, 0, 0],
+        b"\x01\x00\x00\x00\x00\x00\x00\x00\x00\x00\x00\x00\x00\x00\x00\x00\x00",
         &smallest,
     )?;
     // the largest value of every field
@@ -82,44 +82,9 @@ fn read_as_written(rt: LibcRuntime) -> Result<(), Fail> {
             delegable: true,
         },
     };
-    let bytes = [
-        1,
-        3,
-        255,
-        255,
-        255,
-        255,
-        255,
-        255,
-        255,
-        255,
-        255,
-        3,
-        255,
-        6,
-        255,
-        255,
-        255,
-        255,
-        255,
-        255,
-        255,
-        255,
-        255,
-        255,
-        255,
-        255,
-        2,
-        255,
-        255,
-        255,
-        255,
-        255,
-        255,
-        255,
-        255,
-    ];
-    read_and_written(&rt, &bytes, &largest)?;
+    let bytes =
+        b"\x01\x03\xff\xff\xff\xff\xff\xff\xff\xff\xff\x03\xff\x06\xff\xff\xff\xff\xff\xff\xff\xff\xff\xff\xff\xff\x02\xff\xff\xff\xff\xff\xff\xff\xff";
+    read_and_written(&rt, bytes, &largest)?;
     // every byte another, so that no two can change places
     let uneven = Certificate {
         issuer: 258,
@@ -128,30 +93,9 @@ fn read_as_written(rt: LibcRuntime) -> Result<(), Fail> {
         last: 219025168,
         statement: Statement::Name(4370),
     };
-    let bytes = [
-        1,
-        1,
-        2,
-        9,
-        10,
-        11,
-        12,
-        13,
-        14,
-        15,
-        16,
-        3,
-        4,
-        2,
-        5,
-        6,
-        7,
-        8,
-        0,
-        17,
-        18,
-    ];
-    read_and_written(&rt, &bytes, &uneven)?;
+    let bytes =
+        b"\x01\x01\x02\x09\x0a\x0b\x0c\x0d\x0e\x0f\x10\x03\x04\x02\x05\x06\x07\x08\x00\x11\x12";
+    read_and_written(&rt, bytes, &uneven)?;
     // rights without the flag, the last day before the first
     let plain = Certificate {
         issuer: 5,
@@ -163,32 +107,7 @@ fn read_as_written(rt: LibcRuntime) -> Result<(), Fail> {
             delegable: false,
         },
     };
-    let bytes = [
-        1,
-        0,
-        5,
-        0,
-        0,
-        0,
-        9,
-        0,
-        0,
-        0,
-        3,
-        0,
-        6,
-        1,
-        0,
-        7,
-        1,
-        1,
-        2,
-        3,
-        4,
-        5,
-        6,
-        7,
-        8,
-    ];
-    read_and_written(&rt, &bytes, &plain)
+    let bytes =
+        b"\x01\x00\x05\x00\x00\x00\x09\x00\x00\x00\x03\x00\x06\x01\x00\x07\x01\x01\x02\x03\x04\x05\x06\x07\x08";
+    read_and_written(&rt, bytes, &plain)
 }

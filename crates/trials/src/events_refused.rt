@@ -19,24 +19,24 @@ fn cut_anywhere() -> Result<(), Fail> {
     for kept in 0..17 {
         refused(&PLAIN[0..kept], 1, 0)?;
     }
-    refused(&[2], 1, 0)?;
-    refused(&[2, 0], 1, 0)
+    refused(b"\x02", 1, 0)?;
+    refused(b"\x02\x00", 1, 0)
 }
 
 #[test]
 fn malformed() -> Result<(), Fail> {
     // unknown kinds, then an unknown tag
-    refused(&[0, 3], 1, 0)?;
-    refused(&[4, 3], 1, 0)?;
-    refused(&[255, 3], 1, 0)?;
+    refused(b"\x00\x03", 1, 0)?;
+    refused(b"\x04\x03", 1, 0)?;
+    refused(b"\xff\x03", 1, 0)?;
     refused(
-        &[1, 0, 1, 0, 0, 0, 0, 0, 0, 0, 9, 0, 2, 0, 3, 0, 5, 3],
+        b"\x01\x00\x01\x00\x00\x00\x00\x00\x00\x00\x09\x00\x02\x00\x03\x00\x05\x03",
         1,
         0,
     )?;
     // more names than there are bytes, though a house is out of range too
     refused(
-        &[1, 255, 255, 0, 0, 0, 0, 0, 0, 0, 9, 0, 2, 255, 0, 0, 5, 3],
+        b"\x01\xff\xff\x00\x00\x00\x00\x00\x00\x00\x09\x00\x02\xff\x00\x00\x05\x03",
         1,
         0,
     )
@@ -46,112 +46,29 @@ fn malformed() -> Result<(), Fail> {
 fn out_of_range() -> Result<(), Fail> {
     // house 1024 as issuer, then as subject; a day follows each
     refused(
-        &[1, 4, 0, 0, 0, 0, 0, 0, 0, 0, 9, 0, 2, 0, 0, 0, 5, 3],
+        b"\x01\x04\x00\x00\x00\x00\x00\x00\x00\x00\x09\x00\x02\x00\x00\x00\x05\x03",
         2,
         1,
     )?;
     refused(
-        &[1, 0, 1, 0, 0, 0, 0, 0, 0, 0, 9, 4, 0, 0, 0, 0, 5, 3],
+        b"\x01\x00\x01\x00\x00\x00\x00\x00\x00\x00\x09\x04\x00\x00\x00\x00\x05\x03",
         2,
         1,
     )?;
     // seven names
     refused(
-        &[
-            1,
-            0,
-            1,
-            0,
-            0,
-            0,
-            0,
-            0,
-            0,
-            0,
-            9,
-            0,
-            2,
-            7,
-            0,
-            1,
-            0,
-            2,
-            0,
-            3,
-            0,
-            4,
-            0,
-            5,
-            0,
-            6,
-            0,
-            7,
-            0,
-            0,
-            5,
-            3,
-        ],
+        b"\x01\x00\x01\x00\x00\x00\x00\x00\x00\x00\x09\x00\x02\x07\x00\x01\x00\x02\x00\x03\x00\x04\x00\x05\x00\x06\x00\x07\x00\x00\x05\x03",
         2,
         1,
     )?;
     // no rights, with and without the flag
     refused(
-        &[
-            1,
-            0,
-            1,
-            0,
-            0,
-            0,
-            0,
-            0,
-            0,
-            0,
-            9,
-            0,
-            2,
-            0,
-            1,
-            0,
-            0,
-            0,
-            0,
-            0,
-            0,
-            0,
-            0,
-            3,
-        ],
+        b"\x01\x00\x01\x00\x00\x00\x00\x00\x00\x00\x09\x00\x02\x00\x01\x00\x00\x00\x00\x00\x00\x00\x00\x03",
         2,
         1,
     )?;
     refused(
-        &[
-            1,
-            0,
-            1,
-            0,
-            0,
-            0,
-            0,
-            0,
-            0,
-            0,
-            9,
-            0,
-            2,
-            0,
-            2,
-            0,
-            0,
-            0,
-            0,
-            0,
-            0,
-            0,
-            0,
-            3,
-        ],
+        b"\x01\x00\x01\x00\x00\x00\x00\x00\x00\x00\x09\x00\x02\x00\x02\x00\x00\x00\x00\x00\x00\x00\x00\x03",
         2,
         1,
     )

@@ -1,5 +1,6 @@
 -- The reader of events is exact. Assumes nothing.
 use Prim.Native.Nat.{ℕ, _<_}
+use Rattle.certificates.specs.Certificates.{inRange}
 use Rattle.certificates.specs.declared.Certificate.{Certificate}
 use Rattle.std.proofs.shelf.Elements.{all-from-getD}
 use Rattle.std.proofs.shelf.Tests.{eqb-true, cond-both}
@@ -13,7 +14,7 @@ use Rattle.wire.proofs.Parts.{impossible}
 use Rattle.wire.specs.Exact.{Writable, Written-is-read, Fields, Fits as FieldsFit, fieldsBytes, certificateOf, Exactly}
 use Rattle.wire.specs.Format.{eventBytes}
 use Rattle.wire.specs.Numbers.{Taken, bytes, takeNumber}
-use Rattle.wire.specs.Reading.{frame, inRange, Reading, stopped, looked, revoking, readKind, readEvent}
+use Rattle.wire.specs.Reading.{frame, Reading, stopped, looked, revoking, readKind, readEvent}
 use Rattle.wire.specs.declared.events.Event.{Event}
 use Rattle.wire.specs.declared.events.Event.the-variants.{Issued, Revoked, DayPassed}
 use Rattle.wire.specs.declared.faults.Fault.{Fault}

@@ -1,6 +1,6 @@
 -- The fields with values that a certificate may have are those of the well-formed certificates. Assumes nothing.
 use Prim.Native.Nat.{ℕ, _+_, _-_, _≤_}
-use Rattle.certificates.specs.Certificates.{namesOf, Sensible, WellFormed}
+use Rattle.certificates.specs.Certificates.{someRight, inRange, namesOf, Sensible, WellFormed}
 use Rattle.certificates.specs.declared.Certificate.{Certificate}
 use Rattle.certificates.specs.declared.Statement.{Statement}
 use Rattle.certificates.specs.declared.Statement.the-variants.{Name, Rights}
@@ -8,7 +8,7 @@ use Rattle.std.proofs.shelf.Lists.{take-append-drop, take-at, drop-at, length-t
 use Rattle.std.proofs.shelf.Tests.{and-parts, and-from, leb-true, le-leb, ltb-true, lt-ltb}
 use Rattle.wire.specs.Exact.{Fields, fieldsBytes, certificateOf, StatementFits, Fits}
 use Rattle.wire.specs.Format.{certificateBytes}
-use Rattle.wire.specs.Reading.{places, someRight, inRange}
+use Rattle.wire.specs.Reading.{places}
 use lib.Dec.{leb}
 use lib.ListN.{length, take, drop, replicate}
 use mathlib.Core.Bool.{true, _&&_}

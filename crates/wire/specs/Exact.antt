@@ -1,6 +1,6 @@
 -- Reading and writing are inverse, and what is refused is refused for a reason. Assumes nothing.
 use Prim.Native.Nat.{ℕ, _^_, _<_}
-use Rattle.certificates.specs.Certificates.{WellFormed}
+use Rattle.certificates.specs.Certificates.{inRange, WellFormed}
 use Rattle.certificates.specs.declared.Certificate.{Certificate}
 use Rattle.certificates.specs.declared.Statement.{Statement}
 use Rattle.certificates.specs.declared.Statement.the-variants.{Name, Rights}
@@ -9,7 +9,7 @@ use Rattle.std.specs.declared.result.Result.the-variants.{Ok, Err}
 use Rattle.std.specs.shelf.Lists.{All}
 use Rattle.wire.specs.Format.{statementBytes, eventBytes}
 use Rattle.wire.specs.Numbers.{bytes}
-use Rattle.wire.specs.Reading.{places, inRange, Reading, readEvent}
+use Rattle.wire.specs.Reading.{places, Reading, readEvent}
 use Rattle.wire.specs.declared.events.Event.{Event}
 use Rattle.wire.specs.declared.events.Event.the-variants.{Issued, Revoked, DayPassed}
 use Rattle.wire.specs.declared.faults.Fault.{Fault}

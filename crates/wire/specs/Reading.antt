@@ -1,5 +1,6 @@
 -- What is read from bytes. Assumes nothing.
 use Prim.Native.Nat.{ℕ, zero, suc, _-_}
+use Rattle.certificates.specs.Certificates.{inRange}
 use Rattle.certificates.specs.declared.Certificate.{Certificate}
 use Rattle.certificates.specs.declared.Statement.{Statement}
 use Rattle.certificates.specs.declared.Statement.the-variants.{Name, Rights}
@@ -14,9 +15,9 @@ use Rattle.wire.specs.declared.faults.Fault.{Fault}
 use Rattle.wire.specs.declared.faults.Fault.the-variants.{Malformed, OutOfRange}
 use Rattle.wire.specs.declared.reading.Refusal.{Refusal}
 use denote.Ref.{RefT, now}
-use lib.Dec.{eqb, leb, ltb}
+use lib.Dec.{eqb}
 use lib.ListN.{length, take, replicate}
-use mathlib.Core.Bool.{Bool, true, false, cond, _&&_}
+use mathlib.Core.Bool.{Bool, true, false, cond}
 use mathlib.Core.List.{List, [], _∷_, _++_}
 
 abbrev pub takeRights : List ℕ → Bool → Taken Statement
@@ -54,14 +55,6 @@ frame s =
     then (takeNumber 2 s) λ issuer s₁. then (takeNumber 4 s₁) λ first s₂. then (takeNumber 4 s₂) λ last s₃.
     then (takeSubject s₃) λ subject s₄. then (takeStatement s₄) λ statement rest.
     Some (record { issuer = issuer; subject = subject; first = first; last = last; statement = statement }, rest)
-
-abbrev pub someRight : Statement → Bool
-someRight (Name n) = true
-someRight (Rights set delegable) = ltb 0 set
-
--- known houses, at most six names, some right
-abbrev pub inRange : Certificate → Bool
-inRange c = leb (c .issuer) 1023 && (leb (c .subject .house) 1023 && (leb (c .subject .count) 6 && someRight (c .statement)))
 
 -- What reading gives: an event and what follows it, or a fault and what of the delivery is still read.
 abbrev pub Reading : Type 0

@@ -1,7 +1,7 @@
 // Events from bytes. An event is framed first, that is, its kind and length are settled; then its values are looked at.
 ghost use Rattle.wire.specs.Exact.{Exactly};
 ghost use Rattle.wire.specs.Numbers.{split, then};
-ghost use Rattle.wire.specs.Reading.{takeNames, subjectOf, takeSubject, takeStatement, takeRights, frame, inRange, looked, readEvent, readingOf};
+ghost use Rattle.wire.specs.Reading.{takeNames, subjectOf, takeSubject, takeStatement, takeRights, frame, looked, readEvent, readingOf};
 ghost use mathlib.Core.Path.{_≡_};
 use crate::events::Event;
 use crate::faults::Fault;
@@ -10,7 +10,6 @@ use crate::numbers::read_u16;
 use crate::numbers::read_u32;
 use crate::numbers::read_u64;
 use certificates::Certificate;
-use certificates::LAST_HOUSE;
 use certificates::MOST_NAMES;
 use certificates::Statement;
 use certificates::Subject;
@@ -118,20 +117,6 @@ fn frame_certificate(bytes: &[u8]) -> Option<(Certificate, &[u8])>
     Some((certificate, rest))
 }
 
-// Whether the values of a framed certificate are those that a certificate may have.
-fn in_range(certificate: &Certificate) -> bool
-    ensures { λ r. ⌜ r ≡ inRange (now (certificate .entry)) ⌝ }
-{
-    let some_right = match certificate.statement {
-        Statement::Name(_) => true,
-        Statement::Rights { rights, .. } => rights > 0,
-    };
-    certificate.issuer <= LAST_HOUSE
-        && certificate.subject.house <= LAST_HOUSE
-        && usize::from(certificate.subject.count) <= MOST_NAMES
-        && some_right
-}
-
 fn read_certificate(bytes: &[u8]) -> Result<(Event, &[u8]), Refusal<'_>>
     ensures { λ r. ⌜ readingOf r ≡ looked (frame (now (bytes .entry))) ⌝ }
 {
@@ -141,7 +126,7 @@ fn read_certificate(bytes: &[u8]) -> Result<(Event, &[u8]), Refusal<'_>>
             rest: &[],
         });
     };
-    if in_range(&certificate) {
+    if certificate.in_range() {
         Ok((Event::Issued(certificate), rest))
     } else {
         Err(Refusal {

@@ -1,0 +1,11 @@
+pub mod Decisions
+pub mod Pairs
+pub mod Shown
+pub mod Leads
+pub mod Lines
+pub mod Sound
+pub mod Closed
+pub mod Slots
+pub mod Next
+pub mod Ending
+pub mod Complete

@@ -1,0 +1,27 @@
+-- What sheets are worth: each is a statement, proved where a function's contract names it. Assumes nothing.
+use Prim.Native.Nat.{ℕ, _*_, _≤_}
+use Rattle.certificates.specs.Meaning.{May}
+use Rattle.certificates.specs.declared.Certificate.{Certificate}
+use Rattle.sheets.specs.Sheets.{Line, holds}
+use lib.Dec.{T}
+use lib.ListN.{length}
+use mathlib.Core.List.{List, List·Memᴰ}
+use mathlib.Core.Logic.{_⊎_}
+
+-- A sheet that holds for a house shows that the house may.
+abbrev pub Sound : Type 0
+Sound = (cs : List Certificate) (day right owner house : ℕ) (lines : List Line) →
+    T (holds cs day right owner lines house) → May cs day right owner house
+
+-- every subject's house is among the houses
+abbrev pub Covers : List ℕ → List Certificate → Type 0
+Covers houses cs = (c : Certificate) → List·Memᴰ c cs → List·Memᴰ (c .subject .house) houses
+
+-- Whoever may has a sheet that holds, of no more lines than certificates times houses.
+abbrev pub Complete : Type 0
+Complete = (cs : List Certificate) (houses : List ℕ) → Covers houses cs → (day right owner house : ℕ) →
+    May cs day right owner house → (lines : List Line) × T (holds cs day right owner lines house) × (length lines ≤ length cs * length houses)
+
+-- Whether a house may is decided, whatever rings the names make.
+abbrev pub Decided : Type 0
+Decided = (cs : List Certificate) (day right owner house : ℕ) → May cs day right owner house ⊎ (May cs day right owner house → ⊥)
