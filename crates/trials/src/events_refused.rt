@@ -7,7 +7,7 @@ fn refused(bytes: &[u8], number: u8, left: usize) -> Result<(), Fail> {
     let Err(refusal) = read_event(bytes) else {
         return Err(Fail::new("not refused"));
     };
-    check_eq(refusal.fault.number(), number)?;
+    check_eq(refusal.fault.told().number, number)?;
     check_eq(refusal.rest.len(), left)
 }
 

@@ -8,7 +8,7 @@ use Rattle.std.proofs.shelf.Lists.{take-append-drop, take-at, drop-at, length-t
 use Rattle.std.proofs.shelf.Tests.{and-parts, and-from, leb-true, le-leb, ltb-true, lt-ltb}
 use Rattle.wire.specs.Exact.{Fields, fieldsBytes, certificateOf, StatementFits, Fits}
 use Rattle.wire.specs.Format.{certificateBytes}
-use Rattle.wire.specs.Reading.{places}
+use Rattle.wire.specs.Numbers.{places}
 use lib.Dec.{leb}
 use lib.ListN.{length, take, drop, replicate}
 use mathlib.Core.Bool.{true, _&&_}

@@ -12,8 +12,9 @@ use Rattle.wire.proofs.Numerals.{number-part, byte-part, names-part}
 use Rattle.wire.proofs.Parts.{impossible, Part, both, turned, told-by, chosen, never}
 use Rattle.wire.specs.Exact.{fieldsBytes, certificateOf, StatementFits, Fits}
 use Rattle.wire.specs.Format.{statementBytes}
-use Rattle.wire.specs.Numbers.{bytes, takeNumber, then}
-use Rattle.wire.specs.Reading.{takeRights, takeStated, takeStatement, takeSubject, places, frame}
+use Rattle.wire.specs.Numbers.{bytes, takeNumber, then, takeNumbers, places, keepSix}
+use Rattle.wire.specs.Reading.{takeRights, takeStated, takeStatement, takeSubject, frame}
+use Rattle.wire.specs.declared.numbers.Six.{Six}
 use lib.Dec.{eqb}
 use lib.ListN.{length}
 use mathlib.Core.Bool.{Bool, true, false, cond}
@@ -104,7 +105,8 @@ subject-part = told-by
     (λ p fits. ((p .0, p .1 .1), (fits .0, (rw (fits .1 .1 .0) (fits .1 .0), fits .1 .1 .1)), rw (fits .1 .1 .0), rw (fits .1 .1 .0)))
     (λ p fits. ((p .0, (length (p .1), p .1)), (fits .0, (fits .1 .0, (refl, fits .1 .1))), refl, refl))
     (both _ (number-part 2) λ house. both _ byte-part λ count.
-    turned {B = Subject} (λ names. record { house = house; names = places names; count = count }) (names-part count))
+    turned {B = Subject} (λ (six : Six). record { house = house; names = six .numbers; count = count })
+    (turned {B = Six} (λ numbers. record { numbers = places numbers }) (names-part count)))
 
 pub frame-part : Part frame certificateOf fieldsBytes Fits
 frame-part = told-by

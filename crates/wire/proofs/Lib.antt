@@ -1,5 +1,5 @@
 pub mod BigEndian
-pub mod Names
+pub mod Sixes
 pub mod Parts
 pub mod Numerals
 pub mod Frames

@@ -10,8 +10,7 @@ use Rattle.std.specs.shelf.Digits.{number, Under}
 use Rattle.std.specs.shelf.Lists.{All}
 use Rattle.wire.proofs.BigEndian.{number-bytes, bytes-number}
 use Rattle.wire.proofs.Parts.{impossible, Part, both, turned, told-by}
-use Rattle.wire.specs.Numbers.{bytes, takeNumber, then}
-use Rattle.wire.specs.Reading.{takeNames}
+use Rattle.wire.specs.Numbers.{bytes, takeNumber, then, takeNumbers}
 use lib.Dec.{leb}
 use lib.ListN.{length, take, drop, getD, length-append}
 use mathlib.Core.Bool.{Bool, true, false, cond}
@@ -76,8 +75,8 @@ byte-part = told-by (λ b small. (b, small, refl, is-byte b small)) (λ b small.
 abbrev Names-fit : ℕ → List ℕ → Type 0
 Names-fit k names = (length names ≡ k) × All (λ n. n < 2 ^ 16) names
 
-pub names-part : (k : ℕ) → Part (takeNames k) (λ names. names) (joined (bytes 2)) (Names-fit k)
-unfolding takeNames
+pub names-part : (k : ℕ) → Part (takeNumbers k) (λ names. names) (joined (bytes 2)) (Names-fit k)
+unfolding takeNumbers
 names-part zero = record {
   sound = λ s u names rest e.
       let same : _≡_ {A = List ℕ × List ℕ} ([], s) (names, rest) = cc in

@@ -8,8 +8,8 @@ use Rattle.std.specs.Joined.{joined}
 use Rattle.std.specs.declared.result.Result.the-variants.{Ok, Err}
 use Rattle.std.specs.shelf.Lists.{All}
 use Rattle.wire.specs.Format.{statementBytes, eventBytes}
-use Rattle.wire.specs.Numbers.{bytes}
-use Rattle.wire.specs.Reading.{places, Reading, readEvent}
+use Rattle.wire.specs.Numbers.{bytes, places}
+use Rattle.wire.specs.Reading.{Reading, readEvent}
 use Rattle.wire.specs.declared.events.Event.{Event}
 use Rattle.wire.specs.declared.events.Event.the-variants.{Issued, Revoked, DayPassed}
 use Rattle.wire.specs.declared.faults.Fault.{Fault}

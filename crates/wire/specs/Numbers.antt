@@ -4,9 +4,10 @@ use Rattle.std.specs.Options.{mapped}
 use Rattle.std.specs.declared.option.Option.{Option}
 use Rattle.std.specs.declared.option.Option.the-variants.{Some, None}
 use Rattle.std.specs.shelf.Digits.{number}
+use Rattle.wire.specs.declared.numbers.Six.{Six}
 use denote.Ref.{RefT, now}
 use lib.Dec.{leb}
-use lib.ListN.{length, take, drop}
+use lib.ListN.{length, take, drop, replicate}
 use mathlib.Core.Bool.{cond}
 use mathlib.Core.List.{List, [], _∷_, _++_}
 
@@ -27,6 +28,18 @@ takeNumber k s = cond (leb k (length s)) (Some (number 256 (take k s), drop k s)
 abbrev pub then : {A B : Type 0} → Taken A → (A → List ℕ → Taken B) → Taken B
 then None next = None
 then (Some p) next = next (p .0) (p .1)
+
+-- k numbers, of two bytes each
+unfoldable pub takeNumbers : ℕ → List ℕ → Taken (List ℕ)
+takeNumbers zero s = Some ([], s)
+takeNumbers (suc k) s = then (takeNumber 2 s) λ n rest. then (takeNumbers k rest) λ numbers behind. Some (n ∷ numbers, behind)
+
+-- six places: numbers in front, zeros behind them; a seventh number has no place
+abbrev pub places : List ℕ → List ℕ
+places numbers = take 6 (numbers ++ replicate 6 0)
+
+abbrev pub keepSix : List ℕ → List ℕ → Taken Six
+keepSix numbers rest = Some (record { numbers = places numbers }, rest)
 
 -- a reader's answer, with its part of the slice as a list
 abbrev pub split : {A : Type 0} → Option (A × RefT (List ℕ)) → Taken A

@@ -1,5 +1,5 @@
 -- What is read from bytes. Assumes nothing.
-use Prim.Native.Nat.{ℕ, zero, suc, _-_}
+use Prim.Native.Nat.{ℕ}
 use Rattle.certificates.specs.Certificates.{inRange}
 use Rattle.certificates.specs.declared.Certificate.{Certificate}
 use Rattle.certificates.specs.declared.Statement.{Statement}
@@ -8,7 +8,7 @@ use Rattle.certificates.specs.declared.Subject.{Subject}
 use Rattle.std.specs.declared.option.Option.the-variants.{Some, None}
 use Rattle.std.specs.declared.result.Result.{Result}
 use Rattle.std.specs.declared.result.Result.the-variants.{Ok, Err}
-use Rattle.wire.specs.Numbers.{Taken, takeNumber, then}
+use Rattle.wire.specs.Numbers.{Taken, takeNumber, takeNumbers, keepSix, then}
 use Rattle.wire.specs.declared.events.Event.{Event}
 use Rattle.wire.specs.declared.events.Event.the-variants.{Issued, Revoked, DayPassed}
 use Rattle.wire.specs.declared.faults.Fault.{Fault}
@@ -16,9 +16,8 @@ use Rattle.wire.specs.declared.faults.Fault.the-variants.{Malformed, OutOfRang
 use Rattle.wire.specs.declared.reading.Refusal.{Refusal}
 use denote.Ref.{RefT, now}
 use lib.Dec.{eqb}
-use lib.ListN.{length, take, replicate}
 use mathlib.Core.Bool.{Bool, true, false, cond}
-use mathlib.Core.List.{List, [], _∷_, _++_}
+use mathlib.Core.List.{List, []}
 
 abbrev pub takeRights : List ℕ → Bool → Taken Statement
 takeRights s delegable = then (takeNumber 8 s) λ set rest. Some (Rights set delegable, rest)
@@ -33,21 +32,10 @@ takeStated tag s =
 abbrev pub takeStatement : List ℕ → Taken Statement
 takeStatement s = then (takeNumber 1 s) takeStated
 
--- k names, of two bytes each
-unfoldable pub takeNames : ℕ → List ℕ → Taken (List ℕ)
-takeNames zero s = Some ([], s)
-takeNames (suc k) s = then (takeNumber 2 s) λ name rest. then (takeNames k rest) λ names behind. Some (name ∷ names, behind)
-
--- the six places of a subject: names in front, zeros behind them; a seventh name has no place
-abbrev pub places : List ℕ → List ℕ
-places names = take 6 (names ++ replicate 6 0)
-
-abbrev pub subjectOf : ℕ → ℕ → List ℕ → List ℕ → Taken Subject
-subjectOf house count names rest = Some (record { house = house; names = places names; count = count }, rest)
-
 -- a house, how many names follow it, and these
 abbrev pub takeSubject : List ℕ → Taken Subject
-takeSubject s = then (takeNumber 2 s) λ house s₁. then (takeNumber 1 s₁) λ count s₂. then (takeNames count s₂) (subjectOf house count)
+takeSubject s = then (takeNumber 2 s) λ house s₁. then (takeNumber 1 s₁) λ count s₂. then (then (takeNumbers count s₂) keepSix) λ six rest.
+    Some (record { house = house; names = six .numbers; count = count }, rest)
 
 -- A certificate's bytes taken apart, its values not looked at; nothing where they end too early or the tag is unknown.
 abbrev pub frame : List ℕ → Taken Certificate

@@ -1,7 +1,6 @@
-// Why something is refused.
-ghost use Rattle.std.specs.Written.{decimal};
+// Why something is refused, and what is told of it.
 ghost use Rattle.std.specs.declared.option.Option.the-variants.{Some};
-ghost use Rattle.wire.specs.Faults.{numberOf};
+ghost use Rattle.wire.specs.Faults.{toldOf, textOf};
 ghost use mathlib.Core.Path.{_≡_};
 use std::fmt;
 
@@ -17,28 +16,65 @@ pub enum Fault {
     UnknownCertificate,
     // the last day of all would pass
     LastDay,
+    // a line of a sheet is cut
+    LineCut { line: u32 },
+    // a line has a house above 1,023
+    LineOutOfRange { line: u32 },
+    // a line names a number that no certificate has
+    LineUnknown { line: u32 },
+    // a line's certificate is not valid on the day
+    NotValid { line: u32 },
+    // a line's certificate does not give the right
+    NotGiven { line: u32 },
+    // a line's issuer is not shown to have the right and be able to pass it on
+    IssuerNotShown { line: u32 },
+    // a step of a line is not shown
+    StepNotShown { line: u32, step: u8 },
+    // the house is not shown to have the right
+    HouseNotShown,
+}
+
+// What is told of a fault: its number, and its line and step where it has them. Lines and steps count from 0.
+#[derive(Clone, Copy)]
+pub struct Told {
+    pub number: u8,
+    pub line: Option<u32>,
+    pub step: Option<u8>,
 }
 
 impl Fault {
-    // The number by which the fault is told.
-    pub fn number(self) -> u8
-        ensures { λ r. ⌜ r ≡ numberOf self ⌝ }
+    pub fn told(self) -> Told
+        ensures { λ r. ⌜ r ≡ toldOf self ⌝ }
     {
-        match self {
-            Fault::Malformed => 1,
-            Fault::OutOfRange => 2,
-            Fault::TooManyCertificates => 3,
-            Fault::UnknownCertificate => 4,
-            Fault::LastDay => 5,
-        }
+        let (number, line, step) = match self {
+            Fault::Malformed => (1, None, None),
+            Fault::OutOfRange => (2, None, None),
+            Fault::TooManyCertificates => (3, None, None),
+            Fault::UnknownCertificate => (4, None, None),
+            Fault::LastDay => (5, None, None),
+            Fault::LineCut { line } => (1, Some(line), None),
+            Fault::LineOutOfRange { line } => (2, Some(line), None),
+            Fault::LineUnknown { line } => (4, Some(line), None),
+            Fault::NotValid { line } => (7, Some(line), None),
+            Fault::NotGiven { line } => (8, Some(line), None),
+            Fault::IssuerNotShown { line } => (9, Some(line), None),
+            Fault::StepNotShown { line, step } => (10, Some(line), Some(step)),
+            Fault::HouseNotShown => (11, None, None),
+        };
+        Told { number, line, step }
     }
 }
 
 pub impl fmt::Display for Fault as FaultDisplay {
-    ghost shown = { λ fault. Some (decimal (numberOf fault)) };
+    ghost shown = { λ fault. Some (textOf fault) };
 
     fn fmt<W: fmt::Write>(&self, f: &mut fmt::Formatter<W>) -> fmt::Result {
-        let number = self.number();
-        write!(f, "{number}")
+        let told = self.told();
+        let number = told.number;
+        match (told.line, told.step) {
+            (Some(line), Some(step)) => write!(f, "{number} {line} {step}"),
+            (Some(line), None) => write!(f, "{number} {line}"),
+            _ => write!(f, "{number}"),
+        }
     }
 }

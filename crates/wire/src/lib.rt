@@ -2,5 +2,5 @@
 pub mod events;
 pub mod faults;
 pub mod laws;
-pub(crate) mod numbers;
+pub mod numbers;
 pub mod reading;

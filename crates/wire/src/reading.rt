@@ -1,16 +1,16 @@
 // Events from bytes. An event is framed first, that is, its kind and length are settled; then its values are looked at.
 ghost use Rattle.wire.specs.Exact.{Exactly};
-ghost use Rattle.wire.specs.Numbers.{split, then};
-ghost use Rattle.wire.specs.Reading.{takeNames, subjectOf, takeSubject, takeStatement, takeRights, frame, looked, readEvent, readingOf};
+ghost use Rattle.wire.specs.Numbers.{split};
+ghost use Rattle.wire.specs.Reading.{takeSubject, takeStatement, takeRights, frame, looked, readEvent, readingOf};
 ghost use mathlib.Core.Path.{_≡_};
 use crate::events::Event;
 use crate::faults::Fault;
 use crate::numbers::read_u8;
 use crate::numbers::read_u16;
+use crate::numbers::read_u16s;
 use crate::numbers::read_u32;
 use crate::numbers::read_u64;
 use certificates::Certificate;
-use certificates::MOST_NAMES;
 use certificates::Statement;
 use certificates::Subject;
 
@@ -51,31 +51,6 @@ fn read_rights(bytes: &[u8], delegable: bool) -> Option<(Statement, &[u8])>
     Some((Statement::Rights { rights, delegable }, rest))
 }
 
-// A subject's names, as many as `count` says; those past the sixth are walked over.
-fn read_names(house: u16, count: u8, bytes: &[u8]) -> Option<(Subject, &[u8])>
-    ensures { λ r. ⌜ split r ≡ then (takeNames count (now (bytes .entry))) (subjectOf house count) ⌝ }
-{
-    let mut names = [0; MOST_NAMES];
-    let mut rest = bytes;
-    for i in 0..usize::from(count) {
-        let Some((name, behind)) = read_u16(rest) else {
-            return None;
-        };
-        if i < MOST_NAMES {
-            names[i] = name;
-        }
-        rest = behind;
-    }
-    Some((
-        Subject {
-            house,
-            names,
-            count,
-        },
-        rest,
-    ))
-}
-
 fn read_subject(bytes: &[u8]) -> Option<(Subject, &[u8])>
     ensures { λ r. ⌜ split r ≡ takeSubject (now (bytes .entry)) ⌝ }
 {
@@ -85,7 +60,18 @@ fn read_subject(bytes: &[u8]) -> Option<(Subject, &[u8])>
     let Some((count, rest)) = read_u8(rest) else {
         return None;
     };
-    read_names(house, count, rest)
+    let Some((six, rest)) = read_u16s(count, rest) else {
+        return None;
+    };
+    let names = six.numbers;
+    Some((
+        Subject {
+            house,
+            names,
+            count,
+        },
+        rest,
+    ))
 }
 
 // A certificate's bytes taken apart; its values are not looked at.

@@ -9,4 +9,4 @@ use native.Mathlib.Omega.{arith}
 pub returns : need.returns
 returns c =
     let enough : 2 ≤ length (c .args .bytes .now) = omega (arith, ltb-false) in
-    takes 2 _ _ enough (c .from-be-bytes .ensures ∙ number-of-2 _ enough)
+    takes 2 _ _ enough (c .joined .ensures ∙ number-of-2 _ enough)
