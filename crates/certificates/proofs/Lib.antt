@@ -1,2 +1,3 @@
 pub mod Bits
 pub mod Meaning
+pub mod Ranges

@@ -10,7 +10,7 @@ use mathlib.Core.Path.{_≡_, refl, sym, ap, subst, _∙_}
 use native.Mathlib.Omega.{arith}
 
 -- a meaning carries over to other certificates and another day, if every certificate that was valid is there and valid again
-pub Carries : List Certificate → ℕ → List Certificate → ℕ → Type 0
+unfoldable pub Carries : List Certificate → ℕ → List Certificate → ℕ → Type 0
 Carries cs day ds later = (c : Certificate) → List·Memᴰ c cs → Valid day c → List·Memᴰ c ds × Valid later c
 
 pub means-carries : {cs ds : List Certificate} {day later : ℕ} → Carries cs day ds later →

@@ -23,7 +23,7 @@ kept-none cs e = rw e (∣ tt ∣₁)
 pub kept-push : (cs ds : List Certificate) (c : Certificate) → ds ≡ cs ++ (c ∷ []) → Kept cs → WellFormed c → Kept ds
 kept-push cs ds c e kept w = rw e (∥∥₁-map kept (λ all. all-push WellFormed cs c all w))
 
-revoked-well : (c : Certificate) → WellFormed c → WellFormed (revokedOf c)
+pub revoked-well : (c : Certificate) → WellFormed c → WellFormed (revokedOf c)
 revoked-well c w = record {
   issuer-known = w .issuer-known;
   house-known = w .house-known;

@@ -1,1 +1,4 @@
 pub mod Gates
+pub mod Requests
+pub mod Happened
+pub mod Promise

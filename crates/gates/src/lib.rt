@@ -5,7 +5,9 @@ ghost use Rattle.std.specs.Of.Vec.{vec-items, vec-len, vec-cap};
 ghost use Rattle.std.specs.shelf.Lists.{All};
 use certificates::Certificate;
 
+pub mod answers;
 pub mod delivering;
+pub mod laws;
 pub mod taking;
 
 // The most certificates that ever come to a gate; room for them is reserved when the gate is made.

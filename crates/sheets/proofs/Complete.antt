@@ -5,7 +5,7 @@ use Rattle.certificates.specs.declared.Certificate.{Certificate}
 use Rattle.sheets.proofs.Closed.{closed-entitled}
 use Rattle.sheets.proofs.Ending.{Ending, ending}
 use Rattle.sheets.proofs.Shown.{T-from-true}
-use Rattle.sheets.proofs.Slots.{start-room}
+use Rattle.sheets.proofs.Slots.{subjectHouses, subjects-covered, start-room}
 use Rattle.sheets.proofs.Sound.{sound}
 use Rattle.sheets.specs.Facts.{HasRight}
 use Rattle.sheets.specs.Laws.{Covers, Complete, Decided}
@@ -14,7 +14,7 @@ use Rattle.std.proofs.shelf.Tests.{cases-bool, both-ways}
 use lib.Dec.{T}
 use lib.ListN.{length}
 use mathlib.Core.Bool.{true}
-use mathlib.Core.List.{List, map, List·Memᴰ·head, Memᴰ·map}
+use mathlib.Core.List.{List, List·Memᴰ·head}
 use mathlib.Core.Logic.{inl, inr, ⊎-elim}
 use mathlib.Core.Path.{_≡_, refl, _∙_}
 
@@ -37,8 +37,8 @@ complete cs houses covers day right owner house may =
 
 pub decided : Decided
 decided cs day right owner house =
-    let houses = map (λ (c : Certificate). c .subject .house) cs in
-    let covers : Covers houses cs = λ c i. Memᴰ·map (λ (c : Certificate). c .subject .house) i in
+    let houses = subjectHouses cs in
+    let covers = subjects-covered cs in
     let end = end-of cs houses covers day right owner in
     ⊎-elim
     (λ e. inl (sound cs day right owner house (end .lines) (entitled-holds cs houses covers day right owner house e)))

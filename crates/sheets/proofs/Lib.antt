@@ -1,6 +1,7 @@
 pub mod Decisions
 pub mod Pairs
 pub mod Shown
+pub mod Remembering
 pub mod Leads
 pub mod Lines
 pub mod Sound
@@ -9,3 +10,16 @@ pub mod Slots
 pub mod Next
 pub mod Ending
 pub mod Complete
+pub mod Formed
+pub mod Walks
+pub mod Judged
+pub mod LineRead
+pub mod SheetRead
+pub mod Written
+pub mod LineTaken
+pub mod Stepping
+pub mod JudgedBy
+pub mod LinePassing
+pub mod LinesPassing
+pub mod SheetPassing
+pub mod LinesSkipped

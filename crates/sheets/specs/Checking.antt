@@ -49,12 +49,20 @@ module _ (line : ℕ) (facts : List Fact) (c : Certificate) (houses : List ℕ) 
   abbrev pub judged : ℕ → ℕ → Result Fact Fault
   judged day right = cond (knownHouses houses) (cond (valid day c) (allowed right (c .statement)) (Err (NotValid line))) (Err (LineOutOfRange line))
 
+abbrev pub followed : List ℕ → Result Fact Fault → Result (Fact × List ℕ) Fault
+followed rest (Ok fact) = Ok (fact, rest)
+followed rest (Err fault) = Err fault
+
+-- some lines: the facts that the good ones show, and what follows them or the fault of the first that is not good
+abbrev pub Checked : Type 0
+Checked = List Fact × Result (List ℕ) Fault
+
+abbrev pub going : List Fact → (Fact → List ℕ → Checked) → Result (Fact × List ℕ) Fault → Checked
+going facts next (Ok p) = next (p .0) (p .1)
+going facts next (Err fault) = (facts, Err fault)
+
 -- the certificates, the day and the right that is asked for
 module _ (cs : List Certificate) (day right : ℕ) where
-  abbrev pub followed : List ℕ → Result Fact Fault → Result (Fact × List ℕ) Fault
-  followed rest (Ok fact) = Ok (fact, rest)
-  followed rest (Err fault) = Err fault
-
   abbrev pub housed : ℕ → List Fact → ℕ → Taken (List ℕ) → Result (Fact × List ℕ) Fault
   housed line facts number None = Err (LineCut line)
   housed line facts number (Some p) = followed (p .1) (judged line facts (certificateAt cs number) (p .0) day right)
@@ -67,14 +75,6 @@ module _ (cs : List Certificate) (day right : ℕ) where
   -- one line: what it shows and what follows it, or its fault
   abbrev pub checkLine : ℕ → List Fact → List ℕ → Result (Fact × List ℕ) Fault
   checkLine line facts s = numbered line facts (takeNumber 2 s)
-
-  -- some lines: the facts that the good ones show, and what follows them or the fault of the first that is not good
-  abbrev pub Checked : Type 0
-  Checked = List Fact × Result (List ℕ) Fault
-
-  abbrev pub going : List Fact → (Fact → List ℕ → Checked) → Result (Fact × List ℕ) Fault → Checked
-  going facts next (Ok p) = next (p .0) (p .1)
-  going facts next (Err fault) = (facts, Err fault)
 
   unfoldable pub checkLines : ℕ → ℕ → List Fact → List ℕ → Checked
   checkLines zero line facts s = (facts, Ok s)

@@ -2,4 +2,8 @@ pub mod Facts
 pub mod Sheets
 pub mod Checking
 pub mod Bytes
+pub mod Memory
+pub mod Reading
+pub mod Judging
+pub mod Passing
 pub mod Laws

@@ -33,7 +33,7 @@ module _ (names : List ℕ) (few : length names ≤ 6) where
   places-length : length (places names) ≡ 6
   places-length = ap length padded ∙ padded-length
 
-  places-front : take (length names) (places names) ≡ names
+  pub places-front : take (length names) (places names) ≡ names
   places-front = ap (take (length names)) padded ∙ take-at names (replicate (6 - length names) 0) (length names) refl
 
   places-behind : drop (length names) (places names) ≡ replicate (6 - length names) 0

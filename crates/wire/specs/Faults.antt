@@ -4,7 +4,7 @@ use Rattle.std.specs.Written.{decimal}
 use Rattle.std.specs.declared.option.Option.{Option}
 use Rattle.std.specs.declared.option.Option.the-variants.{Some, None}
 use Rattle.wire.specs.declared.faults.Fault.{Fault}
-use Rattle.wire.specs.declared.faults.Fault.the-variants.{Malformed, OutOfRange, TooManyCertificates, UnknownCertificate, LastDay, LineCut, LineOutOfRange, LineUnknown, NotValid, NotGiven, IssuerNotShown, StepNotShown, HouseNotShown}
+use Rattle.wire.specs.declared.faults.Fault.the-variants.{Malformed, OutOfRange, TooManyCertificates, UnknownCertificate, LastDay, TooManyLines, LineCut, LineOutOfRange, LineUnknown, NotValid, NotGiven, IssuerNotShown, StepNotShown, HouseNotShown}
 use Rattle.wire.specs.declared.faults.Told.{Told}
 use lib.Chars.{codes}
 use mathlib.Core.List.{List, _++_}
@@ -22,6 +22,7 @@ toldOf OutOfRange = whole 2
 toldOf TooManyCertificates = whole 3
 toldOf UnknownCertificate = whole 4
 toldOf LastDay = whole 5
+toldOf TooManyLines = whole 6
 toldOf (LineCut line) = atLine 1 line
 toldOf (LineOutOfRange line) = atLine 2 line
 toldOf (LineUnknown line) = atLine 4 line

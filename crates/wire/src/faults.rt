@@ -8,7 +8,7 @@ use std::fmt;
 pub enum Fault {
     // an unknown kind or tag, or bytes that end too early: the event's length can't be known
     Malformed,
-    // a house above 1,023, more than six names, or an empty set of rights
+    // a house above 1,023, a right above 63, more than six names, or an empty set of rights
     OutOfRange,
     // a 1,025th certificate, in all that ever came
     TooManyCertificates,
@@ -16,6 +16,8 @@ pub enum Fault {
     UnknownCertificate,
     // the last day of all would pass
     LastDay,
+    // a request has more lines than certificates times 1,024
+    TooManyLines,
     // a line of a sheet is cut
     LineCut { line: u32 },
     // a line has a house above 1,023
@@ -52,6 +54,7 @@ impl Fault {
             Fault::TooManyCertificates => (3, None, None),
             Fault::UnknownCertificate => (4, None, None),
             Fault::LastDay => (5, None, None),
+            Fault::TooManyLines => (6, None, None),
             Fault::LineCut { line } => (1, Some(line), None),
             Fault::LineOutOfRange { line } => (2, Some(line), None),
             Fault::LineUnknown { line } => (4, Some(line), None),
