@@ -1,27 +1,22 @@
--- What a gate's certificates keep when one comes or is taken back. Assumes nothing.
-use Prim.Native.Nat.{ℕ, zero, suc, _<_}
+-- What stays when a certificate is taken back, and when no certificate has the number. Assumes nothing.
+use Prim.Native.Nat.{ℕ}
 use Rattle.certificates.specs.Certificates.{WellFormed, revokedOf}
 use Rattle.certificates.specs.declared.Certificate.{Certificate}
 use Rattle.gates.specs.Gates.{State, Taken, revokeAt, revoke}
-use Rattle.std.proofs.shelf.Elements.{all-push, all-set, all-getD}
-use Rattle.std.proofs.shelf.Tests.{lt-ltb}
-use Rattle.std.specs.declared.option.Option.the-variants.{None}
-use Rattle.std.specs.shelf.Lists.{All}
-use lib.ListN.{length, getD, set}
-use mathlib.Core.List.{List, [], _∷_, _++_}
-use mathlib.Core.Logic.{∥∥₁-map}
-use mathlib.Core.Path.{_≡_, refl, sym, ap, subst}
+use Rattle.registry.proofs.Kept.{revoke-past}
+use Rattle.registry.specs.Numbered.{revoked}
+use Rattle.std.proofs.shelf.Tests.{ltb-false}
+use Rattle.std.specs.declared.option.Option.the-variants.{Some, None}
+use Rattle.std.specs.declared.result.Result.{Result}
+use Rattle.std.specs.declared.result.Result.the-variants.{Ok, Err}
+use Rattle.wire.specs.declared.faults.Fault.{Fault}
+use Rattle.wire.specs.declared.faults.Fault.the-variants.{UnknownCertificate}
+use lib.Dec.{ltb}
+use lib.ListN.{length}
+use mathlib.Core.Bool.{Bool, true, false, cond}
+use mathlib.Core.List.{List}
+use mathlib.Core.Path.{_≡_, refl, ap, _∙_}
 use native.Mathlib.Omega.{arith}
-
--- there is a proof that each is well formed
-abbrev pub Kept : List Certificate → Type 0
-Kept cs = ∥ All WellFormed cs ∥₁
-
-pub kept-none : (cs : List Certificate) → cs ≡ [] → Kept cs
-kept-none cs e = rw e (∣ tt ∣₁)
-
-pub kept-push : (cs ds : List Certificate) (c : Certificate) → ds ≡ cs ++ (c ∷ []) → Kept cs → WellFormed c → Kept ds
-kept-push cs ds c e kept w = rw e (∥∥₁-map kept (λ all. all-push WellFormed cs c all w))
 
 pub revoked-well : (c : Certificate) → WellFormed c → WellFormed (revokedOf c)
 revoked-well c w = record {
@@ -33,22 +28,17 @@ revoked-well c w = record {
   few-names = w .few-names;
   names-fit = w .names-fit;
   zero-behind = w .zero-behind;
-  sensible = w .sensible;
-}
+  sensible = w .sensible }
 
-pub kept-revoked : (cs : List Certificate) (i : ℕ) (c : Certificate) → i < length cs → c ≡ getD cs i c → Kept cs → Kept (set cs i (revokedOf c))
-kept-revoked cs i c below is kept =
-    ∥∥₁-map kept (λ all. all-set WellFormed cs i (revokedOf c) (revoked-well c (rw is (all-getD WellFormed cs i c below all))) all)
-
--- the code writes into place what the definition reaches by recursion
-pub revoke-in-place : (cs : List Certificate) (i : ℕ) (c : Certificate) → i < length cs → c ≡ getD cs i c → set cs i (revokedOf c) ≡ revokeAt i cs
-unfolding revokeAt
-revoke-in-place [] i c below is = let none : ⊥ = omega arith in absurd none
-revoke-in-place (d ∷ cs) zero c below is = rw is
-revoke-in-place (d ∷ cs) (suc i) c below is = ap (λ (xs : List Certificate). d ∷ xs) (revoke-in-place cs i c (omega arith) is)
-
-pub revoked-state : (g : State) (number i : ℕ) (c r : Certificate) → i ≡ number → number < length (g .certificates) → c ≡ getD (g .certificates) i c → r ≡ revokedOf c →
-    _≡_ {A = Taken} (record { owner = g .owner; day = g .day; certificates = set (g .certificates) i r }, None) (revoke g number)
-revoked-state g number i c r same below is e =
-    rw (lt-ltb number (length (g .certificates)) below, e, ← same)
-    (ap {B = Taken} (λ (cs : List Certificate). (record { owner = g .owner; day = g .day; certificates = cs }, None)) (revoke-in-place (g .certificates) i c (rw same below) is))
+-- a number that no certificate has changes nothing
+pub revoke-refused : (g : State) (number : ℕ) (fault : Fault) (cs : List Certificate) → Err fault ≡ revoked (g .certificates) number → cs ≡ revokeAt number (g .certificates) →
+    _≡_ {A = Taken} (record { owner = g .owner; day = g .day; certificates = cs }, Some fault) (revoke g number)
+revoke-refused g number fault cs = by-test (ltb number (length (g .certificates))) refl
+  where
+    by-test : (b : Bool) → ltb number (length (g .certificates)) ≡ b → _≡_ {A = Result (Unit {0}) Fault} (Err fault) (cond b (Ok tt) (Err UnknownCertificate)) → cs ≡ revokeAt number (g .certificates) →
+        _≡_ {A = Taken} (record { owner = g .owner; day = g .day; certificates = cs }, Some fault)
+        (cond b (record { owner = g .owner; day = g .day; certificates = revokeAt number (g .certificates) }, None) (g, Some UnknownCertificate))
+    by-test true below e same = let none : _≡_ {A = ℕ} 0 1 = cc in absurd (omega (arith, none))
+    by-test false past e same =
+        let is : fault ≡ UnknownCertificate = cc in
+        rw (is, same ∙ revoke-past number (g .certificates) (ltb-false number (length (g .certificates)) past))

@@ -1,9 +1,9 @@
 -- What a gate holds and what it does on each event. Assumes nothing.
 use Prim.Native.Nat.{ℕ, zero, suc, _+_}
-use Rattle.certificates.specs.Certificates.{revokedOf}
 use Rattle.certificates.specs.declared.Certificate.{Certificate}
 use Rattle.gates.specs.declared.Gate.{Gate}
-use Rattle.std.specs.Of.Vec.{vec-items}
+use Rattle.registry.specs.Numbered.{certificatesOf}
+unfoldable pub use Rattle.registry.specs.Numbered.{revokeAt}
 use Rattle.std.specs.declared.option.Option.{Option}
 use Rattle.std.specs.declared.option.Option.the-variants.{Some, None}
 use Rattle.std.specs.declared.result.Result.the-variants.{Ok, Err}
@@ -24,7 +24,7 @@ pub record State : Type 0 where
   pub certificates : List Certificate
 
 abbrev pub stateOf : Gate → State
-stateOf g = record { owner = g .owner; day = g .day; certificates = vec-items (g .certificates) }
+stateOf g = record { owner = g .owner; day = g .day; certificates = certificatesOf (g .registry) }
 
 abbrev pub newGate : ℕ → State
 newGate owner = record { owner = owner; day = 0; certificates = [] }
@@ -39,11 +39,6 @@ issue g c =
     cond (ltb (length (g .certificates)) 1024)
     (record { owner = g .owner; day = g .day; certificates = g .certificates ++ (c ∷ []) }, None)
     (g, Some TooManyCertificates)
-
-unfoldable pub revokeAt : ℕ → List Certificate → List Certificate
-revokeAt i [] = []
-revokeAt zero (c ∷ cs) = revokedOf c ∷ cs
-revokeAt (suc i) (c ∷ cs) = c ∷ revokeAt i cs
 
 -- a certificate that has the number is valid on no day from then on
 abbrev pub revoke : State → ℕ → Taken
@@ -76,10 +71,6 @@ Delivered = State × List Fault
 abbrev pub noting : Option Fault → Delivered → Delivered
 noting None d = d
 noting (Some fault) d = (d .0, fault ∷ d .1)
-
--- with the faults of what came before
-abbrev pub after : List Fault → Delivered → Delivered
-after faults d = (d .0, faults ++ d .1)
 
 -- at most n events, one after the other
 unfoldable pub deliverWithin : ℕ → State → List ℕ → Delivered

@@ -1,4 +1,5 @@
 pub mod Gates
+pub mod Answers
 pub mod Requests
 pub mod Happened
 pub mod Promise

@@ -1,13 +1,18 @@
 // Deliveries: bytes that hold events one after the other.
 ghost use Prim.Native.Nat.{_<_};
-ghost use Rattle.gates.specs.Gates.{stateOf, takeFirst, deliver, after};
+ghost use Rattle.gates.specs.Gates.{stateOf, takeFirst, deliver};
+ghost use Rattle.gates.specs.Requests.{told, receive};
 ghost use Rattle.std.specs.Of.Vec.{vec-items};
 ghost use Rattle.std.specs.Vec.{made};
 ghost use Rattle.wire.specs.Reading.{readEvent};
 ghost use lib.ListN.{length};
 ghost use mathlib.Core.Path.{_≡_};
 use crate::Gate;
-use std::alloc::AllocError;
+use crate::answers::Answer;
+use crate::answers::Trouble;
+use crate::answers::TroubleFromRefused;
+use crate::answers::TroubleFromShort;
+use crate::requests::REQUEST;
 use std::alloc::Global;
 use wire::faults::Fault;
 use wire::reading::read_event;
@@ -27,18 +32,9 @@ impl Gate {
         }
     }
 
-    // Takes a delivery: the gate after it, and the faults of the events that it refused, in their order.
-    pub fn deliver(self, heap: Global, bytes: &[u8]) -> Result<(Gate, Vec<Fault>), AllocError>
-        ensures { λ r. ⌜ made r (λ p. (stateOf (p .0), vec-items (p .1)) ≡ deliver (stateOf self) (now (bytes .entry))) ⌝ }
-    {
-        let mut faults = Vec::new(heap);
-        let gate = self.take_all(bytes, &mut faults)?;
-        Ok((gate, faults))
-    }
-
-    // The same, with the faults added to those of other deliveries.
-    fn take_all(self, bytes: &[u8], faults: &mut Vec<Fault>) -> Result<Gate, AllocError>
-        ensures { λ r. ⌜ made r (λ g. (stateOf g, vec-items (now (faults .exit))) ≡ after (vec-items (now (faults .entry))) (deliver (stateOf self) (now (bytes .entry)))) ⌝ }
+    // Takes the events of a delivery, and adds the answers of those that are refused.
+    fn take_all(self, bytes: &[u8], answers: &mut Vec<Answer>) -> Result<Gate, Trouble>
+        ensures { λ r. ⌜ made r (λ g. (stateOf g, vec-items (now (answers .exit))) ≡ told (vec-items (now (answers .entry))) (deliver (stateOf self) (now (bytes .entry)))) ⌝ }
     {
         let mut gate = self;
         let mut rest = bytes;
@@ -47,9 +43,25 @@ impl Gate {
             gate = next;
             rest = behind;
             if let Some(fault) = fault {
-                faults.push(fault)?;
+                answers.push(Answer::Refused(fault))?;
             }
         }
         Ok(gate)
+    }
+
+    // Takes a delivery, which is a request if its first byte is 4: the gate after it, and its answers in their order.
+    pub fn receive(self, heap: Global, bytes: &[u8], memory: &mut [u64]) -> Result<(Gate, Vec<Answer>), Trouble>
+        ensures { λ r. ⌜ made r (λ p. (stateOf (p .0), vec-items (p .1)) ≡ receive (stateOf self) (now (bytes .entry))) ⌝ }
+    {
+        let mut answers = Vec::new(heap);
+        let Some(kind) = bytes.first() else {
+            return Ok((self, answers));
+        };
+        if *kind == REQUEST {
+            answers.push(self.answer(bytes, memory)?)?;
+            return Ok((self, answers));
+        }
+        let gate = self.take_all(bytes, &mut answers)?;
+        Ok((gate, answers))
     }
 }

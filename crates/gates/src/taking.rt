@@ -1,27 +1,32 @@
 // What a gate does on each event.
-ghost use Rattle.gates.specs.Gates.{stateOf, newGate, issue, revoke, passDay, take};
 ghost use Rattle.certificates.specs.Certificates.{WellFormed};
+ghost use Rattle.gates.specs.Gates.{stateOf, newGate, issue, revoke, passDay, take};
 ghost use Rattle.std.specs.Vec.{made};
 ghost use Rattle.wire.specs.Exact.{Writable};
 ghost use mathlib.Core.Path.{_≡_};
 use crate::Gate;
-use crate::MOST_CERTIFICATES;
+use crate::answers::Trouble;
+use crate::answers::TroubleFromAlloc;
 use certificates::Certificate;
-use std::alloc::AllocError;
+use certificates::LAST_HOUSE;
+use registry::Registry;
 use std::alloc::Global;
 use wire::events::Event;
 use wire::faults::Fault;
 
 impl Gate {
     // A gate of `owner` on day 0, without certificates.
-    pub fn new(heap: Global, owner: u16) -> Result<Gate, AllocError>
+    pub fn new(heap: Global, owner: u16) -> Result<Gate, Trouble>
         ensures { λ r. ⌜ made r (λ g. stateOf g ≡ newGate owner) ⌝ }
     {
-        let certificates = Vec::with_capacity(heap, MOST_CERTIFICATES)?;
+        if owner > LAST_HOUSE {
+            return Err(Trouble::UnknownHouse);
+        }
+        let registry = Registry::new(heap)?;
         Ok(Gate {
             owner,
             day: 0,
-            certificates,
+            registry,
         })
     }
 
@@ -30,24 +35,20 @@ impl Gate {
         requires { ⌜ WellFormed certificate ⌝ }
         ensures { λ r. ⌜ (stateOf (r .0), r .1) ≡ issue (stateOf self) certificate ⌝ }
     {
-        if self.certificates.len() >= MOST_CERTIFICATES {
-            return (self, Some(Fault::TooManyCertificates));
+        match self.registry.issue(certificate) {
+            Ok(()) => (self, None),
+            Err(fault) => (self, Some(fault)),
         }
-        self.certificates.push_reserved(certificate);
-        (self, None)
     }
 
     // The certificate of this number is taken back.
     fn revoke(mut self, number: u16) -> (Gate, Option<Fault>)
         ensures { λ r. ⌜ (stateOf (r .0), r .1) ≡ revoke (stateOf self) number ⌝ }
     {
-        let place = usize::from(number);
-        if place >= self.certificates.len() {
-            return (self, Some(Fault::UnknownCertificate));
+        match self.registry.revoke(number) {
+            Ok(()) => (self, None),
+            Err(fault) => (self, Some(fault)),
         }
-        let revoked = self.certificates[place].revoked();
-        self.certificates[place] = revoked;
-        (self, None)
     }
 
     // A day passes, unless it is the last.

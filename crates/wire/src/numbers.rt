@@ -4,7 +4,7 @@ ghost use Rattle.wire.specs.Numbers.{takeNumber, takeNumbers, keepSix, then, s
 ghost use mathlib.Core.Path.{_≡_};
 
 // The next byte, and what follows it; `None` where there is none.
-pub(crate) fn read_u8(bytes: &[u8]) -> Option<(u8, &[u8])>
+pub fn read_u8(bytes: &[u8]) -> Option<(u8, &[u8])>
     ensures { λ r. ⌜ split r ≡ takeNumber 1 (now (bytes .entry)) ⌝ }
 {
     let [byte, rest @ ..] = bytes else {
@@ -31,7 +31,7 @@ pub fn read_u16(bytes: &[u8]) -> Option<(u16, &[u8])>
 }
 
 // The next four bytes as a number, and what follows them; `None` where there are fewer.
-pub(crate) fn read_u32(bytes: &[u8]) -> Option<(u32, &[u8])>
+pub fn read_u32(bytes: &[u8]) -> Option<(u32, &[u8])>
     ensures { λ r. ⌜ split r ≡ takeNumber 4 (now (bytes .entry)) ⌝ }
 {
     let [a, b, c, d, rest @ ..] = bytes else {
