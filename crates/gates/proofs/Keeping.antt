@@ -28,7 +28,8 @@ revoked-well c w = record {
   few-names = w .few-names;
   names-fit = w .names-fit;
   zero-behind = w .zero-behind;
-  sensible = w .sensible }
+  sensible = w .sensible;
+}
 
 -- a number that no certificate has changes nothing
 pub revoke-refused : (g : State) (number : ℕ) (fault : Fault) (cs : List Certificate) → Err fault ≡ revoked (g .certificates) number → cs ≡ revokeAt number (g .certificates) →

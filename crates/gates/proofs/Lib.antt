@@ -12,3 +12,4 @@ pub mod Heads
 pub mod Opening
 pub mod Asking
 pub mod Promised
+pub mod OnCall

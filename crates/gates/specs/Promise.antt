@@ -3,8 +3,10 @@ use Prim.Native.Nat.{ℕ, _*_, _<_, _≤_}
 use Rattle.certificates.specs.Laws.{Grows, From-owner}
 use Rattle.certificates.specs.Meaning.{May}
 use Rattle.certificates.specs.declared.Certificate.{Certificate}
+use Rattle.gates.specs.Gates.{State}
 use Rattle.gates.specs.Happened.{happened, today, standing, came}
 use Rattle.gates.specs.Requests.{Head, takeHead, receive, run}
+use Rattle.gates.specs.declared.answers.Answer.{Answer}
 use Rattle.gates.specs.declared.answers.Answer.the-variants.{Open}
 use Rattle.sheets.specs.Bytes.{sheetBytes}
 use Rattle.sheets.specs.Sheets.{Line}
@@ -39,3 +41,13 @@ pub record Promised (owner : ℕ) (ds : List (List ℕ)) : Type 0 where
 -- together with: more certificates never take a right away, and an owner that issued nothing gave nothing to anybody else
 abbrev pub Main : Type 0
 Main = ((owner : ℕ) → owner < 1024 → (ds : List (List ℕ)) → All Bytes ds → Promised owner ds) × (Grows × From-owner)
+
+-- What a gate keeps when it takes a delivery d: whatever the deliveries ds were by which it came about,
+-- it is then the gate after one more, who is let in may, and whoever may had a request with which they are let in.
+pub record KeptPromise (g : State) (d : List ℕ) (g′ : State) (answers : List Answer) : Type 0 where
+  pub goes-on : (ds : List (List ℕ)) → g ≡ run (g .owner) ds → g′ ≡ run (g .owner) (ds ++ (d ∷ []))
+  pub only : (ds : List (List ℕ)) → All Bytes ds → g ≡ run (g .owner) ds → List·Memᴰ Open answers →
+      (h : Head) × (rest : List ℕ) × (takeHead d ≡ Some (h, rest)) × MayAfter ds (h .right) (g .owner) (h .house)
+  pub every : (ds : List (List ℕ)) → All Bytes ds → g ≡ run (g .owner) ds →
+      (house right : ℕ) → house < 1024 → right < 64 → MayAfter ds right (g .owner) house →
+      (lines : List Line) × (receive g (requestBytes house right lines) .1 ≡ Open ∷ []) × (length lines ≤ came (happened ds) * 1024)

@@ -44,11 +44,11 @@ answer g s = answerHead g (takeHead s)
 abbrev pub leftByHead : State → List ℕ → Taken Head → List ℕ
 leftByHead g memory None = memory
 leftByHead g memory (Some p) =
-  cond (leb (p .0 .house) 1023 && leb (p .0 .right) 63)
-  (cond (leb (p .0 .lines) (length (g .certificates) * 1024))
+    cond (leb (p .0 .house) 1023 && leb (p .0 .right) 63)
+    (cond (leb (p .0 .lines) (length (g .certificates) * 1024))
     (namesTable (g .certificates) (checkSheet (g .certificates) (g .day) (p .0 .right) (g .owner) (p .0 .house) (p .0 .lines) (p .1) .0) (replicate (length memory) 0))
     memory)
-  memory
+    memory
 
 abbrev pub leftBy : State → List ℕ → List ℕ → List ℕ
 leftBy g s memory = leftByHead g memory (takeHead s)
@@ -61,7 +61,7 @@ told answers d = (d .0, answers ++ map Refused (d .1))
 abbrev pub receive : State → List ℕ → State × List Answer
 receive g [] = (g, [])
 receive g (b ∷ s) =
-      cond (eqb b 4) (g, answer g (b ∷ s) ∷ []) (told [] (deliver g (b ∷ s)))
+    cond (eqb b 4) (g, answer g (b ∷ s) ∷ []) (told [] (deliver g (b ∷ s)))
 
 -- a gate of the owner after some deliveries
 unfoldable pub after : State → List (List ℕ) → State

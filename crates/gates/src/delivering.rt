@@ -1,6 +1,7 @@
 // Deliveries: bytes that hold events one after the other.
 ghost use Prim.Native.Nat.{_<_};
 ghost use Rattle.gates.specs.Gates.{stateOf, takeFirst, deliver};
+ghost use Rattle.gates.specs.Promise.{KeptPromise};
 ghost use Rattle.gates.specs.Requests.{told, receive};
 ghost use Rattle.std.specs.Of.Vec.{vec-items};
 ghost use Rattle.std.specs.Vec.{made};
@@ -50,7 +51,12 @@ impl Gate {
     }
 
     // Takes a delivery, which is a request if its first byte is 4: the gate after it, and its answers in their order.
-    pub fn receive(self, heap: Global, bytes: &[u8], memory: &mut [u64]) -> Result<(Gate, Vec<Answer>), Trouble>
+    fn take_delivery(
+        self,
+        heap: Global,
+        bytes: &[u8],
+        memory: &mut [u64],
+    ) -> Result<(Gate, Vec<Answer>), Trouble>
         ensures { λ r. ⌜ made r (λ p. (stateOf (p .0), vec-items (p .1)) ≡ receive (stateOf self) (now (bytes .entry))) ⌝ }
     {
         let mut answers = Vec::new(heap);
@@ -63,5 +69,18 @@ impl Gate {
         }
         let gate = self.take_all(bytes, &mut answers)?;
         Ok((gate, answers))
+    }
+
+    // Takes a delivery, and keeps what is promised of all deliveries so far.
+    pub fn receive(
+        self,
+        heap: Global,
+        bytes: &[u8],
+        memory: &mut [u64],
+    ) -> Result<(Gate, Vec<Answer>), Trouble>
+        ensures value { λ r. ⌜ made r (λ p. (stateOf (p .0), vec-items (p .1)) ≡ receive (stateOf self) (now (bytes .entry))) ⌝ }
+        ensures promised { λ r. ⌜ made r (λ p. KeptPromise (stateOf self) (now (bytes .entry)) (stateOf (p .0)) (vec-items (p .1))) ⌝ }
+    {
+        self.take_delivery(heap, bytes, memory)
     }
 }

@@ -46,7 +46,14 @@ fn read_head(bytes: &[u8]) -> Option<(Head, &[u8])>
     let Some((lines, rest)) = read_u32(rest) else {
         return None;
     };
-    Some((Head { house, right, lines }, rest))
+    Some((
+        Head {
+            house,
+            right,
+            lines,
+        },
+        rest,
+    ))
 }
 
 impl Gate {
