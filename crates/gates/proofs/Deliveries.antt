@@ -23,7 +23,7 @@ pub record So-far (before : State) (noted : List Answer) (s : List ℕ) (g : Sta
 pub none-taken : (g : State) (noted : List Answer) (s : List ℕ) → So-far g noted s g noted s
 none-taken g noted s = record { turns = length s; enough = omega arith; same = refl }
 
-told-noting : (answers : List Answer) (fault : Option Fault) (d : Delivered) → told answers (noting fault d) ≡ told (answers ++ map Refused (listOf fault)) d
+pub told-noting : (answers : List Answer) (fault : Option Fault) (d : Delivered) → told answers (noting fault d) ≡ told (answers ++ map Refused (listOf fault)) d
 told-noting answers None d = ap (λ (fs : List Answer). (d .0, fs ++ map Refused (d .1))) (sym (append-nil answers))
 told-noting answers (Some fault) d = ap (λ (fs : List Answer). (d .0, fs)) (sym (append-assoc answers (Refused fault ∷ []) (map Refused (d .1))))
 

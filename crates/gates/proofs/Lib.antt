@@ -13,3 +13,4 @@ pub mod Opening
 pub mod Asking
 pub mod Promised
 pub mod OnCall
+pub mod PieceByPiece

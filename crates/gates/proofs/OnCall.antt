@@ -2,13 +2,13 @@
 use Prim.Native.Nat.{ℕ, _<_}
 use Rattle.gates.proofs.Promised.{main}
 use Rattle.gates.specs.Gates.{State}
-use Rattle.gates.specs.Promise.{Bytes, KeptPromise, requestBytes}
-use Rattle.gates.specs.Requests.{receive, after, run}
+use Rattle.gates.specs.Promise.{Bytes, KeptPromise, KeptAnswer, requestBytes}
+use Rattle.gates.specs.Requests.{answer, receive, after, run}
 use Rattle.gates.specs.declared.answers.Answer.{Answer}
 use Rattle.gates.specs.declared.answers.Answer.the-variants.{Open}
 use Rattle.std.proofs.shelf.Elements.{all-from-getD}
 use lib.ListN.{getD}
-use mathlib.Core.List.{List, [], _∷_, _++_, List·Memᴰ}
+use mathlib.Core.List.{List, [], _∷_, _++_, List·Memᴰ, List·Memᴰ·head}
 use mathlib.Core.Path.{_≡_, refl, sym, ap, subst, _∙_}
 use mir.Syntax.{w8}
 use mir.Val.{Fits}
@@ -32,3 +32,8 @@ promise-kept g d g′ answers known typed is =
           let (lines, opens, few) = main .0 (g .owner) known ds all .every house right small small-right may in
           (lines, ap (λ (h : State). receive h (requestBytes house right lines) .1) from ∙ opens, few);
     }
+
+pub answer-kept : (g : State) (d : List ℕ) (answered : Answer) → g .owner < 1024 → ((i : ℕ) → Fits w8 (getD d i 0)) → answered ≡ answer g d → KeptAnswer g d answered
+answer-kept g d answered known typed is lines begins ds all from opens =
+    let same : receive g d .1 ≡ answer g d ∷ [] = rw begins in
+    promise-kept g d (receive g d .0) (receive g d .1) known typed refl .only ds all from (rw same (List·Memᴰ·head (sym opens ∙ is)))

@@ -20,7 +20,7 @@ use mathlib.Core.Logic.{inl, inr}
 use mathlib.Core.Path.{refl, ap}
 
 module _ (s : List ℕ) where
-  rest-bytes : (r : Reading) → Exactly s r → Bytes s → Bytes (readOn r)
+  pub rest-bytes : (r : Reading) → Exactly s r → Bytes s → Bytes (readOn r)
   rest-bytes (Ok p) exact small = bytes-rest (eventBytes (p .0)) (p .1) (rw (exact .reads (p .0) (p .1) .0 refl .1) at small)
   rest-bytes (Err e) exact small = elim (exact .stops (e .0) (e .1) refl) [
     | inl out ↦

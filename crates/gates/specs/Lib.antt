@@ -3,3 +3,4 @@ pub mod Answers
 pub mod Requests
 pub mod Happened
 pub mod Promise
+pub mod Pieces

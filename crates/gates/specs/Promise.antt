@@ -51,3 +51,8 @@ pub record KeptPromise (g : State) (d : List ℕ) (g′ : State) (answers : List
   pub every : (ds : List (List ℕ)) → All Bytes ds → g ≡ run (g .owner) ds →
       (house right : ℕ) → house < 1024 → right < 64 → MayAfter ds right (g .owner) house →
       (lines : List Line) × (receive g (requestBytes house right lines) .1 ≡ Open ∷ []) × (length lines ≤ came (happened ds) * 1024)
+
+-- What a gate keeps when it answers a request d: whatever the deliveries ds were by which it came about, who is let in may.
+abbrev pub KeptAnswer : State → List ℕ → Answer → Type 0
+KeptAnswer g d answered = (lines : List ℕ) → d ≡ 4 ∷ lines → (ds : List (List ℕ)) → All Bytes ds → g ≡ run (g .owner) ds → answered ≡ Open →
+    (h : Head) × (rest : List ℕ) × (takeHead d ≡ Some (h, rest)) × MayAfter ds (h .right) (g .owner) (h .house)

@@ -20,7 +20,7 @@ use wire::reading::read_event;
 
 impl Gate {
     // Takes the first event of some bytes: the gate after it, the fault where it is refused, and what is read on.
-    fn take_first(self, bytes: &[u8]) -> (Gate, Option<Fault>, &[u8])
+    pub(crate) fn take_first(self, bytes: &[u8]) -> (Gate, Option<Fault>, &[u8])
         ensures value { λ r. ⌜ ((stateOf (r .0), r .1), now (r .2)) ≡ takeFirst (stateOf self) (readEvent (now (bytes .entry))) ⌝ }
         ensures shorter { λ r. ⌜ (0 < length (now (bytes .entry)) → length (now (r .2)) < length (now (bytes .entry))) ⌝ }
     {

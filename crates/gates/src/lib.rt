@@ -5,6 +5,7 @@ use registry::Registry;
 pub mod answers;
 pub mod delivering;
 pub mod laws;
+pub mod pieces;
 pub mod requests;
 pub mod taking;
 

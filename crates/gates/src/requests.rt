@@ -1,8 +1,10 @@
 // Requests: a house asks for a right, and shows a sheet.
 ghost use Prim.Native.Nat.{_<_, _≤_};
 ghost use Rattle.gates.specs.Gates.{stateOf};
+ghost use Rattle.gates.specs.Promise.{KeptAnswer};
 ghost use Rattle.gates.specs.Requests.{takeHead, answer, answerHead, leftBy, leftByHead};
 ghost use Rattle.std.specs.Results.{Cases};
+ghost use Rattle.std.specs.Vec.{made};
 ghost use Rattle.std.specs.declared.option.Option.the-variants.{Some};
 ghost use Rattle.wire.specs.Numbers.{split};
 ghost use lib.ListN.{length};
@@ -21,6 +23,9 @@ use wire::numbers::read_u32;
 
 // The kind of a request.
 pub const REQUEST: u8 = 4;
+
+// The most bytes that a request can have: a head, and as many lines of six steps as there may be.
+pub const LONGEST_REQUEST: usize = 8 + 1024 * 1024 * 14;
 
 // Who asks, for which right, and how many lines the sheet has.
 #[derive(Clone, Copy)]
@@ -80,8 +85,8 @@ impl Gate {
         }
     }
 
-    // The answer to a request.
-    pub fn answer(&self, bytes: &[u8], memory: &mut [u64]) -> Result<Answer, ShortMemory>
+    // Reads the head and looks at it, and then at the lines.
+    fn answer_unread(&self, bytes: &[u8], memory: &mut [u64]) -> Result<Answer, ShortMemory>
         ensures value { λ r. ⌜ Cases r (λ a. a ≡ answer (stateOf (now (self .entry))) (now (bytes .entry))) (λ _. length (now (memory .entry)) < 16384) ⌝ }
         ensures memory { λ r. ⌜ Cases r (λ _. now (memory .exit) ≡ leftBy (stateOf (now (self .entry))) (now (bytes .entry)) (now (memory .entry))) (λ _. now (memory .exit) ≡ now (memory .entry)) ⌝ }
     {
@@ -89,5 +94,14 @@ impl Gate {
             return Ok(Answer::Refused(Fault::Malformed));
         };
         self.ask(head, lines, memory)
+    }
+
+    // The answer to a request, whose first byte is 4: whoever is let in may.
+    pub fn answer(&self, bytes: &[u8], memory: &mut [u64]) -> Result<Answer, ShortMemory>
+        ensures value { λ r. ⌜ Cases r (λ a. a ≡ answer (stateOf (now (self .entry))) (now (bytes .entry))) (λ _. length (now (memory .entry)) < 16384) ⌝ }
+        ensures memory { λ r. ⌜ Cases r (λ _. now (memory .exit) ≡ leftBy (stateOf (now (self .entry))) (now (bytes .entry)) (now (memory .entry))) (λ _. now (memory .exit) ≡ now (memory .entry)) ⌝ }
+        ensures promised { λ r. ⌜ made r (λ a. KeptAnswer (stateOf (now (self .entry))) (now (bytes .entry)) a) ⌝ }
+    {
+        self.answer_unread(bytes, memory)
     }
 }

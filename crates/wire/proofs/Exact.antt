@@ -29,7 +29,7 @@ use mir.Syntax.{w8}
 use mir.Val.{Fits}
 
 -- fields are read whatever their values, and then looked at
-fields-read : (f : Fields) → FieldsFit f → (rest : List ℕ) → readEvent (1 ∷ (fieldsBytes f ++ rest)) ≡ looked (Some (certificateOf f, rest))
+pub fields-read : (f : Fields) → FieldsFit f → (rest : List ℕ) → readEvent (1 ∷ (fieldsBytes f ++ rest)) ≡ looked (Some (certificateOf f, rest))
 fields-read f fits rest = ap readKind (byte-taken 1 (fieldsBytes f ++ rest)) ∙ ap looked (frame-part .complete f fits rest)
 
 pub read-back : Written-is-read
@@ -41,7 +41,7 @@ read-back (Revoked number) w rest =
 read-back DayPassed w rest = ap readKind (byte-taken 3 rest)
 
 -- what reading gives, and why
-data Outcome (s : List ℕ) : Reading → Type 0 where
+pub data Outcome (s : List ℕ) : Reading → Type 0 where
   event : {e : Event} {rest : List ℕ} → Writable e → s ≡ eventBytes e ++ rest → Outcome s (Ok (e, rest))
   refused : {rest : List ℕ} (f : Fields) → FieldsFit f → inRange (certificateOf f) ≡ false → s ≡ 1 ∷ (fieldsBytes f ++ rest) →
       Outcome s (Err (OutOfRange, rest))
@@ -70,7 +70,7 @@ module _ (s : List ℕ) (small : All (λ b. b < 256) s) where
       cond-both (eqb kind 3) _ _ (Outcome (kind ∷ s)) (λ is. rw (eqb-true kind 3 is) (event tt refl)) λ not3.
       stop
 
-outcome : (s : List ℕ) → All (λ b. b < 256) s → Outcome s (readEvent s)
+pub outcome : (s : List ℕ) → All (λ b. b < 256) s → Outcome s (readEvent s)
 outcome [] small = stop
 outcome (kind ∷ s) small = rw (byte-taken kind s) (of-kind s (small .1) kind)
 

@@ -5,3 +5,4 @@ pub mod Numerals
 pub mod Frames
 pub mod Formed
 pub mod Exact
+pub mod Longest

@@ -20,7 +20,7 @@ use mathlib.Core.Path.{_≡_, refl, sym, ap}
 use native.Mathlib.Nat.{mod-eq-of-lt}
 use native.Mathlib.Omega.{arith}
 
-length-bytes : (k n : ℕ) → length (bytes k n) ≡ k
+pub length-bytes : (k n : ℕ) → length (bytes k n) ≡ k
 unfolding bytes
 length-bytes zero n = refl
 length-bytes (suc k) n = simp length-append (omega (arith, length-bytes k (n / 256)))
