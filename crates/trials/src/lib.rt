@@ -3,3 +3,5 @@
 mod certificates_read;
 #[cfg(test)]
 mod events_refused;
+#[cfg(test)]
+mod sheets_checked;
