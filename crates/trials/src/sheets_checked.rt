@@ -192,18 +192,10 @@ fn rights_passed_on(rt: LibcRuntime) -> Result<(), Fail> {
     // two names that hold each other up
     let ring = [names(1, 5, by(2, 5)), names(2, 5, by(1, 5))];
     let mut desk = Desk::new(rt.alloc(), &ring)?;
-    desk.refuses(
-        may(2),
-        2,
-        b"\x00\x00\x00\x02\x00\x01\x00\x02",
-        of_step(0, 0),
-    )?;
-    desk.refuses(
-        may(2),
-        2,
-        b"\x00\x01\x00\x02\x00\x00\x00\x02",
-        of_step(0, 0),
-    )
+    let lines = b"\x00\x00\x00\x02\x00\x01\x00\x02";
+    desk.refuses(may(2), 2, lines, of_step(0, 0))?;
+    let lines = b"\x00\x01\x00\x02\x00\x00\x00\x02";
+    desk.refuses(may(2), 2, lines, of_step(0, 0))
 }
 
 #[test]
@@ -245,26 +237,23 @@ fn troubled() -> [Certificate; 7] {
 #[test]
 fn every_fault(rt: LibcRuntime) -> Result<(), Fail> {
     let mut desk = Desk::new(rt.alloc(), &troubled())?;
-    // a line that isn't there, half a number, half a house, half a number in the second line
+    // no line, half a number; behind a good line half a number, half a house
     desk.refuses(may(2), 1, b"", of_line(0, 1))?;
     desk.refuses(may(2), 1, b"\x00", of_line(0, 1))?;
-    desk.refuses(may(2), 1, b"\x00\x01\x00\x02\x00", of_line(0, 1))?;
     desk.refuses(may(2), 2, b"\x00\x04\x00", of_line(1, 1))?;
+    desk.refuses(may(2), 2, b"\x00\x04\x00\x01\x00\x02\x00", of_line(1, 1))?;
     // house 1024, where house 1023 is only not shown
-    desk.refuses(may(2), 1, b"\x00\x01\x00\x02\x04\x00", of_line(0, 2))?;
+    let lines = b"\x00\x04\x00\x01\x00\x02\x04\x00";
+    desk.refuses(may(2), 2, lines, of_line(1, 2))?;
     desk.refuses(may(2), 1, b"\x00\x01\x03\xff\x00\x02", of_step(0, 0))?;
     // numbers that no certificate has
     desk.refuses(may(2), 1, b"\x00\x07", of_line(0, 4))?;
     desk.refuses(may(2), 2, b"\x00\x04\xff\xff", of_line(1, 4))?;
     // another right, an issuer that is not shown, a second step
-    desk.refuses(may(2), 1, b"\x00\x02", of_line(0, 8))?;
+    desk.refuses(may(2), 2, b"\x00\x04\x00\x02", of_line(1, 8))?;
     desk.refuses(may(2), 1, b"\x00\x03", of_line(0, 9))?;
-    desk.refuses(
-        may(2),
-        2,
-        b"\x00\x00\x00\x01\x00\x02\x00\x03",
-        of_step(1, 1),
-    )?;
+    let lines = b"\x00\x00\x00\x01\x00\x02\x00\x03";
+    desk.refuses(may(2), 2, lines, of_step(1, 1))?;
     // good lines with a byte behind them, and without the right
     desk.refuses(may(2), 1, b"\x00\x04\xff", of_all(1))?;
     desk.refuses(may(2), 1, b"\x00\x00", of_all(11))?;
@@ -284,27 +273,31 @@ fn every_fault(rt: LibcRuntime) -> Result<(), Fail> {
 
 #[test]
 fn facts_of_names(rt: LibcRuntime) -> Result<(), Fail> {
-    // one name for house 1023 and for house 2: each is shown by its own line
-    let twice = [
+    // one name for houses 1023, 2 and 3: each is shown by its own line
+    let several = [
         names(1, 5, plain(1023)),
         names(1, 5, plain(2)),
+        names(1, 5, plain(3)),
         gives(1, by(1, 5)),
     ];
-    let mut desk = Desk::new(rt.alloc(), &twice)?;
-    let last = b"\x00\x00\x00\x01\x00\x02\x03\xff";
-    desk.holds(may(1023), 3, last)?;
-    desk.refuses(may(2), 3, last, of_all(11))?;
-    desk.holds(may(2), 3, b"\x00\x00\x00\x01\x00\x02\x00\x02")?;
-    desk.refuses(may(2), 2, b"\x00\x00\x00\x02\x00\x02", of_step(1, 0))?;
-    desk.refuses(may(1023), 2, b"\x00\x01\x00\x02\x03\xff", of_step(1, 0))?;
-    // as many certificates as there may be: the last has the last row of memory, and house 1023 its last bit
-    let mut desk = Desk::new(rt.alloc(), &[gives(1, by(1, 1023))])?;
-    for name in 1..1023 {
-        check(desk.registry.issue(names(1, name, plain(2))).is_ok()).note("certificate refused")?;
-    }
-    check(desk.registry.issue(names(1, 1023, plain(1023))).is_ok()).note("last refused")?;
-    desk.holds(may(1023), 2, b"\x03\xff\x00\x00\x03\xff")?;
-    desk.refuses(may(2), 2, b"\x03\xfe\x00\x00\x00\x02", of_step(1, 0))
+    let mut desk = Desk::new(rt.alloc(), &several)?;
+    desk.holds(may(1023), 3, b"\x00\x00\x00\x01\x00\x03\x03\xff")?;
+    desk.holds(may(2), 4, b"\x00\x00\x00\x01\x00\x02\x00\x03\x00\x02")?;
+    desk.refuses(may(2), 2, b"\x00\x00\x00\x03\x00\x02", of_step(1, 0))?;
+    desk.refuses(may(1023), 2, b"\x00\x01\x00\x03\x03\xff", of_step(1, 0))?;
+    // name 7 of house 1 stands for whoever is reached by two names, its name 8 for nobody
+    let chained = [
+        names(1, 5, plain(2)),
+        names(2, 8, plain(3)),
+        names(1, 7, by_two(1, 5, 8)),
+        gives(1, by(1, 7)),
+        gives(1, by(1, 8)),
+    ];
+    let mut desk = Desk::new(rt.alloc(), &chained)?;
+    let lines = b"\x00\x00\x00\x01\x00\x02\x00\x02\x00\x03\x00\x03\x00\x03";
+    desk.holds(may(3), 4, lines)?;
+    desk.refuses(may(2), 4, lines, of_all(11))?;
+    desk.refuses(may(3), 2, b"\x00\x01\x00\x04\x00\x03", of_step(1, 0))
 }
 
 fn all_are(words: &[u64], word: u64) -> Result<(), Fail> {
@@ -334,7 +327,15 @@ fn memory_lent(rt: LibcRuntime) -> Result<(), Fail> {
     let mut short = vec![in rt.alloc(); ALL_SHOWN; MEMORY_WORDS - 1]?;
     let answer = checking::check(&desk.registry, &may(1), 0, b"", short.as_mut_slice());
     check(answer.is_err()).note("checked with short memory")?;
-    all_are(short.as_slice(), ALL_SHOWN)
+    all_are(short.as_slice(), ALL_SHOWN)?;
+    // as many certificates as there may be: the last has the last row, and house 1023 its last bit
+    let mut desk = Desk::new(rt.alloc(), &[gives(1, by(1, 1023))])?;
+    for name in 1..1023 {
+        check(desk.registry.issue(names(1, name, plain(2))).is_ok()).note("certificate refused")?;
+    }
+    check(desk.registry.issue(names(1, 1023, plain(1023))).is_ok()).note("last refused")?;
+    desk.holds(may(1023), 2, b"\x03\xff\x00\x00\x03\xff")?;
+    desk.refuses(may(2), 2, b"\x03\xfe\x00\x00\x00\x02", of_step(1, 0))
 }
 
 #[test]
