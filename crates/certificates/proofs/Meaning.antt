@@ -1,8 +1,8 @@
 -- The laws of the meaning, by induction on how a meaning or a right came about. Assumes nothing.
-use Rattle.std.proofs.Common.{◌≡◌, ℕ, Bool, true, List, [], ◌∷◌, ◌++◌, sym, refl, ap, ◌∙◌, subst, append_assoc, arith}
+use Rattle.std.proofs.Common.{◌≡◌, ℕ, Bool, List, [], ◌∷◌, ◌++◌, sym, refl, ap, ◌∙◌, subst, append_assoc, arith}
 use Rattle.certificates.specs.Certificates.{names_of, Valid}
 use Rattle.certificates.specs.Laws.{Grows, Steady, IssuedNothing, From-owner, From-issuer, Splits}
-use Rattle.certificates.specs.Meaning.{Means, itself, by, Has, owns, given, May}
+use Rattle.certificates.specs.Meaning.{Means, itself, by, Has, owns, given}
 use Rattle.certificates.specs.declared.Certificate.{Certificate}
 use mathlib.Core.List.{Memᴰ}
 

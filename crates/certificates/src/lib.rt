@@ -1,4 +1,6 @@
 // A certificate is what one house states for a span of days: what one of its names stands for, or who has rights.
+#![tactic(auto)]
+
 ghost use Rattle.std.specs.Prelude.{◌≡◌, ℕ, Bool, Decides};
 ghost use Rattle.certificates.specs.Certificates.{in_range, valid, Valid, gives, Gives, revokedOf};
 

@@ -1,4 +1,6 @@
 // gate OWNER FILE...: takes each file as a delivery, and prints what it answers, one answer to a line.
+#![tactic(auto)]
+
 use anyhow::anyhow;
 use gates::Gate;
 use gates::requests::LONGEST_REQUEST;
@@ -20,7 +22,7 @@ fn answer_request(
     mut bytes: Vec<u8>,
 ) -> anyhow::Result<()> {
     for _ in 0..=LONGEST_REQUEST {
-        if bytes.len() > LONGEST_REQUEST || !read_on(rt, &mut file, name, &mut bytes)? {
+        if bytes.len() > LONGEST_REQUEST || !read_on(&mut file, name, &mut bytes)? {
             break;
         }
     }
@@ -44,7 +46,7 @@ fn take_events(
     let mut lines = String::new(heap);
     let mut left = Vec::new(heap);
     for _ in 0..u64::MAX {
-        let more = read_on(rt, &mut file, name, &mut piece)?;
+        let more = read_on(&mut file, name, &mut piece)?;
         let (next, rest) = take_piece(gate, piece.as_slice(), !more, &mut answers);
         gate = next;
         lines.clear();
@@ -75,7 +77,7 @@ fn receive_file(
 ) -> anyhow::Result<Gate> {
     let mut file = open_file(rt, name)?;
     let mut bytes = Vec::new(rt.alloc());
-    let _ = read_on(rt, &mut file, name, &mut bytes)?;
+    let _ = read_on(&mut file, name, &mut bytes)?;
     if bytes.first().copied() == Some(REQUEST) {
         answer_request(rt, &gate, memory, name, file, bytes)?;
         return Ok(gate);
@@ -89,7 +91,7 @@ fn new_gate(rt: &HostRuntime, owner: &str) -> anyhow::Result<Gate> {
     };
     match Gate::new(rt.alloc(), owner) {
         Ok(gate) => Ok(gate),
-        Err(trouble) => Err(anyhow!(format!(in rt.alloc(); "{trouble}")?)),
+        Err(trouble) => Err(anyhow!("{trouble}")),
     }
 }
 
@@ -111,9 +113,5 @@ fn run(rt: &HostRuntime) -> anyhow::Result<()> {
 }
 
 fn main(rt: HostRuntime) -> anyhow::Result<()> {
-    let done = run(&rt);
-    if let Err(error) = &done {
-        eprintln!(rt; "gate: {error}")?;
-    }
-    done
+    run(&rt)
 }

@@ -1,4 +1,6 @@
 // A gate belongs to one house, counts days, and keeps the certificates that came to it.
+#![tactic(auto)]
+
 ghost use Rattle.std.specs.Prelude.{◌≤◌};
 
 use registry::Registry;

@@ -1,4 +1,6 @@
 // Deliveries of events taken in pieces, so that memory is bounded whatever comes.
+#![tactic(auto)]
+
 ghost use Rattle.std.specs.Prelude.{◌≡◌, ◌+◌, ◌<◌, ◌≤◌, ◌++◌, map, length, vec_len, vec_capacity};
 ghost use Rattle.gates.specs.Gates.{state_of};
 ghost use Rattle.pieces.specs.Pieces as pieces;

@@ -10,31 +10,27 @@ use std::{fs, io};
 pub const PIECE: usize = 16384;
 
 // A message that names the file.
-fn trouble(rt: &HostRuntime, name: &str, error: io::Error) -> anyhow::Error {
-    match format!(in rt.alloc(); "{name}: {error}") {
-        Ok(text) => text.into(),
-        Err(_) => "out of memory".into(),
-    }
+fn trouble(name: &str, error: io::Error) -> anyhow::Error {
+    anyhow!("{name}: {error}")
 }
 
 // Opens a file, which is no folder. No contract speaks of files, so only a run shows that it is the one named.
 pub fn open_file(rt: &HostRuntime, name: &str) -> anyhow::Result<File> {
     let found = match fs::metadata(rt, name) {
         Ok(found) => found,
-        Err(error) => return Err(trouble(rt, name, error)),
+        Err(error) => return Err(trouble(name, error)),
     };
     if found.is_dir() {
-        return Err(anyhow!(format!(in rt.alloc(); "{name}: is a folder")?));
+        return Err(anyhow!("{name}: is a folder"));
     }
     match fs::open(rt, name) {
         Ok(file) => Ok(file),
-        Err(error) => Err(trouble(rt, name, error)),
+        Err(error) => Err(trouble(name, error)),
     }
 }
 
 // Reads on behind the bytes that are there; false at the end of the file. Which bytes come, only a run shows.
 pub fn read_on(
-    rt: &HostRuntime,
     file: &mut File,
     name: &str,
     bytes: &mut Vec<u8>,
@@ -44,7 +40,7 @@ pub fn read_on(
     let mut piece = [0u8; PIECE];
     let count = match file.read(&mut piece) {
         Ok(count) => count,
-        Err(error) => return Err(trouble(rt, name, error)),
+        Err(error) => return Err(trouble(name, error)),
     };
     bytes.extend_from_slice(&piece[0..count])?;
     Ok(count > 0)

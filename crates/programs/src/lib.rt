@@ -1,3 +1,5 @@
 // What the programs share: arguments and files.
+#![tactic(auto)]
+
 pub mod arguments;
 pub mod files;

@@ -15,7 +15,7 @@ use Rattle.sheets.specs.Sheets.{certificateAt, start}
 use Rattle.std.proofs.lemmas.List.{append-nil, length-append, length-drop, take-append-le, drop-append-le}
 use Rattle.std.proofs.lemmas.Bool.{le-leb, leb-true, ltb-true}
 use Rattle.std.specs.Int.Digits.{number_from_digits}
-use Rattle.wire.specs.Numbers.{Taken, takeNumber, then, takeNumbers}
+use Rattle.wire.specs.Numbers.{Taken, takeNumber, and_then, takeNumbers}
 use Rattle.wire.specs.declared.faults.Fault.{Fault}
 use Rattle.wire.specs.declared.faults.Fault.TheVariants.{OutOfRange, TooManyLines, LineUnknown}
 
@@ -47,8 +47,8 @@ numbers-front (suc k) p enough =
       left = second.left;
       long = omega (arith, first.long, second.long);
       is = λ more.
-          ap (λ (t : Taken ℕ). then t λ n rest. then (takeNumbers k rest) λ numbers behind. Some (n ∷ numbers, behind)) (first.is more)
-          ∙ ap (λ (t : Taken (List ℕ)). then t λ numbers behind. Some (first.value ∷ numbers, behind)) (second.is more);
+          ap (λ (t : Taken ℕ). and_then t λ n rest. and_then (takeNumbers k rest) λ numbers behind. Some (n ∷ numbers, behind)) (first.is more)
+          ∙ ap (λ (t : Taken (List ℕ)). and_then t λ numbers behind. Some (first.value ∷ numbers, behind)) (second.is more);
     }
 
 head-front : (p : List ℕ) → 8 ≤ length p → ReadFront takeHead p 8

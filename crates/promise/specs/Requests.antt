@@ -6,14 +6,14 @@ use Rattle.promise.specs.declared.answers.Answer.{Answer}
 use Rattle.promise.specs.declared.answers.Answer.TheVariants.{Open, Refused}
 use Rattle.sheets.specs.Checking.{checkSheet}
 use Rattle.sheets.specs.Memory.{namesTable}
-use Rattle.wire.specs.Numbers.{Taken, takeNumber, then}
+use Rattle.wire.specs.Numbers.{Taken, takeNumber, and_then}
 use Rattle.wire.specs.declared.faults.Fault.{Fault}
 use Rattle.wire.specs.declared.faults.Fault.TheVariants.{Malformed, OutOfRange, TooManyLines}
 
 -- a request begins with its kind and its head; its lines follow
 abbrev pub takeHead : List ℕ → Taken Head
 takeHead s =
-    then (takeNumber 1 s) λ kind s₁. then (takeNumber 2 s₁) λ house s₂. then (takeNumber 1 s₂) λ right s₃. then (takeNumber 4 s₃) λ lines rest.
+    and_then (takeNumber 1 s) λ kind s₁. and_then (takeNumber 2 s₁) λ house s₂. and_then (takeNumber 1 s₂) λ right s₃. and_then (takeNumber 4 s₃) λ lines rest.
     Some (record { house = house; right = right; lines = lines }, rest)
 
 abbrev pub decided : Result (Unit {0}) Fault → Answer

@@ -1,4 +1,6 @@
 // The certificates that came, by number, with an index of the names that they state.
+#![tactic(auto)]
+
 ghost use Rattle.std.specs.Prelude.{◌≡◌, ◌≤◌, true, vec_len, vec_capacity};
 ghost use Rattle.registry.specs.Index.{Rising, Agrees, Numbers};
 ghost use Rattle.registry.specs.Keeping.{allInRange};

@@ -1,4 +1,6 @@
 // Marked lines as bytes: a certificate's number and the houses of the steps, two bytes each, high byte first.
+#![tactic(auto)]
+
 ghost use Rattle.std.specs.Prelude.{◌≡◌, ◌+◌, ◌*◌, ◌/◌, ◌%◌, ◌<◌, ◌≤◌, List, ◌++◌, length, drop, if◌then◌else◌, MatchResult, slice_set};
 ghost use Rattle.keeping.specs.Marks.{picked};
 ghost use Rattle.registry.specs.Numbered.{certificatesOf, certificateAt};

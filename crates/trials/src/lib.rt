@@ -1,4 +1,6 @@
 // Tests of the libraries, each over a table of cases.
+#![tactic(auto)]
+
 #[cfg(test)]
 mod building;
 #[cfg(test)]

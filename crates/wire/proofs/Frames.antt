@@ -10,7 +10,7 @@ use Rattle.wire.proofs.Numerals.{number-part, byte-part, names-part}
 use Rattle.wire.proofs.Parts.{impossible, Part, both, turned, told-by, chosen, never}
 use Rattle.wire.specs.Exact.{fieldsBytes, certificateOf, StatementFits, Fits}
 use Rattle.wire.specs.Format.{statementBytes}
-use Rattle.wire.specs.Numbers.{bytes, takeNumber, then, takeNumbers, places, keepSix}
+use Rattle.wire.specs.Numbers.{bytes, takeNumber, and_then, takeNumbers, places, keepSix}
 use Rattle.wire.specs.Reading.{takeRights, takeStated, takeStatement, takeSubject, frame}
 use Rattle.wire.specs.declared.numbers.Six.{Six}
 
@@ -35,7 +35,7 @@ small-tag (Rights set false) = omega arith
 abbrev Stated : ℕ → Statement → Type 0
 Stated tag st = (tag ≡ tag_of st) × StatementFits st
 
-name-part : (tag : ℕ) → tag ≡ 0 → Part (λ s. then (takeNumber 2 s) λ name rest. Some (Name name, rest)) (λ st. st) body_of (Stated tag)
+name-part : (tag : ℕ) → tag ≡ 0 → Part (λ s. and_then (takeNumber 2 s) λ name rest. Some (Name name, rest)) (λ st. st) body_of (Stated tag)
 name-part tag is = told-by (λ name fits. (Name name, (is, fits), refl, refl)) back (turned Name (number-part 2))
   where
     back : (st : Statement) → Stated tag st → (name : ℕ) × (name < 256 ^ 2) × (Name name ≡ st) × (bytes 2 name ≡ body_of st)

@@ -1,7 +1,7 @@
 -- Readers of parts, each exact: it reads a value where the bytes are those of the value, and nowhere else. Assumes nothing.
 use Rattle.std.proofs.Common.{◌≡◌, ℕ, Bool, true, false, cond, List, [], ◌∷◌, ◌++◌, Some, None, sym, refl, ap, ◌∙◌, append_assoc, arith}
 use Rattle.std.specs.Int.Digits.{AllBelowBase}
-use Rattle.wire.specs.Numbers.{Taken, then}
+use Rattle.wire.specs.Numbers.{Taken, and_then}
 
 -- from what `cc` or `omega` finds contradictory, anything
 pub impossible : {A : Type 0} → ◌≡◌ {A = ℕ} 0 1 → A
@@ -15,7 +15,7 @@ pub record Part {I A : Type 0} (reader : List ℕ → Taken A) (value : I → A)
 
 -- where one part after the other was taken, so was each
 taken_then : {A B : Type 0} (x : Taken A) (next : A → List ℕ → Taken B) (y : B × List ℕ) →
-    then x next ≡ Some y → (p : A × List ℕ) × (x ≡ Some p) × (next p.0 p.1 ≡ Some y)
+    and_then x next ≡ Some y → (p : A × List ℕ) × (x ≡ Some p) × (next p.0 p.1 ≡ Some y)
 taken_then None next y e = impossible (cc)
 taken_then (Some p) next y e = (p, refl, e)
 
@@ -27,7 +27,7 @@ under_rest (b ∷ w) rest u = under_rest w rest u.1
 pub both : {I J A B : Type 0} {reader : List ℕ → Taken A} {value : I → A} {written : I → List ℕ} {Fit : I → Type 0}
     {value' : I → J → B} {written' : I → J → List ℕ} {Fit' : I → J → Type 0} (next : A → List ℕ → Taken B) →
     Part reader value written Fit → ((i : I) → Part (next (value i)) (value' i) (written' i) (Fit' i)) →
-    Part (λ s. then (reader s) next) (λ (p : I × J). value' p.0 p.1)
+    Part (λ s. and_then (reader s) next) (λ (p : I × J). value' p.0 p.1)
     (λ p. written p.0 ++ written' p.0 p.1) (λ p. Fit p.0 × Fit' p.0 p.1)
 both {reader} {written} {written'} next first second = record {
   sound = λ s u b rest e.
@@ -42,7 +42,7 @@ both {reader} {written} {written'} next first second = record {
 
 -- what was read, turned into another value
 pub turned : {I A B : Type 0} {reader : List ℕ → Taken A} {value : I → A} {written : I → List ℕ} {Fit : I → Type 0}
-    (f : A → B) → Part reader value written Fit → Part (λ s. then (reader s) λ a rest. Some (f a, rest)) (λ i. f (value i)) written Fit
+    (f : A → B) → Part reader value written Fit → Part (λ s. and_then (reader s) λ a rest. Some (f a, rest)) (λ i. f (value i)) written Fit
 turned {B} {reader} {written} f part = record {
   sound = λ s u b rest e.
       let (p, e₁, e₂) = taken_then (reader s) (λ a rest. Some (f a, rest)) (b, rest) e in

@@ -1,7 +1,7 @@
 -- Numbers read one after the other into six places. Assumes nothing.
 use Rattle.std.proofs.Common.{◌≡◌, ℕ, zero, suc, ◌+◌, ◌-◌, ◌<◌, ◌≤◌, Bool, true, false, cond, ltb, List, [], ◌∷◌, ◌++◌, length, get_or, take, drop, set, replicate, Some, None, Option, sym, refl, ap, ◌∙◌, ap₂, append_assoc, append-nil, arith, length-append}
 use Rattle.std.proofs.lemmas.Bool.{ltb-true, ltb-false}
-use Rattle.wire.specs.Numbers.{Taken, takeNumber, then}
+use Rattle.wire.specs.Numbers.{Taken, takeNumber, and_then}
 use Rattle.wire.specs.Numbers.{takeNumbers, places, keepSix}
 use Rattle.wire.specs.declared.numbers.Six.{Six}
 use lib.Seq.{take-append-le}
@@ -39,24 +39,24 @@ placed done n = go (ltb (length done) 6) refl
 module _ (count : ℕ) where
   -- the numbers taken so far, with those that are taken next
   abbrev pub with-done : List ℕ → Taken (List ℕ) → Taken Six
-  with-done done t = then t λ numbers rest. keepSix (done ++ numbers) rest
+  with-done done t = and_then t λ numbers rest. keepSix (done ++ numbers) rest
 
   -- after i turns: the array holds the numbers so far, and what is left gives the same as the whole
   pub record So-far (s : List ℕ) (i : ℕ) (array rest : List ℕ) : Type 0 where
     pub done : List ℕ
     pub many : length done ≡ i
     pub holds : array ≡ places done
-    pub same : then (takeNumbers count s) keepSix ≡ with-done done (takeNumbers (count - i) rest)
+    pub same : and_then (takeNumbers count s) keepSix ≡ with-done done (takeNumbers (count - i) rest)
 
   pub all_read : {s array rest : List ℕ} {i : ℕ} → So-far s i array rest → count ≤ i →
-      Some (record { numbers = array }, rest) ≡ then (takeNumbers count s) keepSix
+      Some (record { numbers = array }, rest) ≡ and_then (takeNumbers count s) keepSix
   unfolding takeNumbers
   all_read {s} {array} {rest} {i} so all =
       let none_left : count - i ≡ 0 = omega arith in
       sym (so.same ∙ rw (none_left, append-nil so.done, sym so.holds))
 
   pub cut_short : {s array rest : List ℕ} {i : ℕ} → So-far s i array rest → i < count → None ≡ takeNumber 2 rest →
-      None ≡ then (takeNumbers count s) keepSix
+      None ≡ and_then (takeNumbers count s) keepSix
   unfolding takeNumbers
   cut_short {s} {array} {rest} {i} so more short =
       let left : count - i ≡ suc (count - i - 1) = omega arith in
@@ -76,6 +76,6 @@ module _ (count : ℕ) where
       }
     where
       onward : (t : Taken (List ℕ)) →
-          with-done so.done (then t λ numbers after. Some (n ∷ numbers, after)) ≡ with-done (so.done ++ (n ∷ [])) t
+          with-done so.done (and_then t λ numbers after. Some (n ∷ numbers, after)) ≡ with-done (so.done ++ (n ∷ [])) t
       onward None = refl
       onward (Some p) = rw (append_assoc so.done (n ∷ []) p.0)

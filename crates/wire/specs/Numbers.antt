@@ -19,14 +19,14 @@ abbrev pub takeNumber : ℕ → List ℕ → Taken ℕ
 takeNumber k s = cond (nat_le k (length s)) (Some (number_from_digits 256 (take k s), drop k s)) None
 
 -- one part after the other; nothing as soon as one is missing
-abbrev pub then : {A B : Type 0} → Taken A → (A → List ℕ → Taken B) → Taken B
-then None next = None
-then (Some p) next = next p.0 p.1
+abbrev pub and_then : {A B : Type 0} → Taken A → (A → List ℕ → Taken B) → Taken B
+and_then None next = None
+and_then (Some p) next = next p.0 p.1
 
 -- k numbers, of two bytes each
 unfoldable pub takeNumbers : ℕ → List ℕ → Taken (List ℕ)
 takeNumbers zero s = Some ([], s)
-takeNumbers (suc k) s = then (takeNumber 2 s) λ n rest. then (takeNumbers k rest) λ numbers behind. Some (n ∷ numbers, behind)
+takeNumbers (suc k) s = and_then (takeNumber 2 s) λ n rest. and_then (takeNumbers k rest) λ numbers behind. Some (n ∷ numbers, behind)
 
 -- six places: numbers in front, zeros behind them; a seventh number has no place
 abbrev pub places : List ℕ → List ℕ

@@ -5,7 +5,7 @@ use Rattle.certificates.specs.declared.Certificate.{Certificate}
 use Rattle.certificates.specs.declared.Statement.{Statement}
 use Rattle.certificates.specs.declared.Statement.TheVariants.{Name, Rights}
 use Rattle.certificates.specs.declared.Subject.{Subject}
-use Rattle.wire.specs.Numbers.{Taken, takeNumber, takeNumbers, keepSix, then}
+use Rattle.wire.specs.Numbers.{Taken, takeNumber, takeNumbers, keepSix, and_then}
 use Rattle.wire.specs.declared.events.Event.{Event}
 use Rattle.wire.specs.declared.events.Event.TheVariants.{Issued, Revoked, DayPassed}
 use Rattle.wire.specs.declared.faults.Fault.{Fault}
@@ -14,28 +14,28 @@ use Rattle.wire.specs.declared.reading.Refusal.{Refusal}
 use Rattle.std.specs.Borrow.{Bor}
 
 abbrev pub takeRights : List ℕ → Bool → Taken Statement
-takeRights s delegable = then (takeNumber 8 s) λ set rest. Some (Rights set delegable, rest)
+takeRights s delegable = and_then (takeNumber 8 s) λ set rest. Some (Rights set delegable, rest)
 
 abbrev pub takeStated : ℕ → List ℕ → Taken Statement
 takeStated tag s =
-    cond (tag == 0) (then (takeNumber 2 s) λ name rest. Some (Name name, rest))
+    cond (tag == 0) (and_then (takeNumber 2 s) λ name rest. Some (Name name, rest))
     (cond (tag == 1) (takeRights s false)
     (cond (tag == 2) (takeRights s true) None))
 
 -- a tag, then a name or a set of rights
 abbrev pub takeStatement : List ℕ → Taken Statement
-takeStatement s = then (takeNumber 1 s) takeStated
+takeStatement s = and_then (takeNumber 1 s) takeStated
 
 -- a house, how many names follow it, and these
 abbrev pub takeSubject : List ℕ → Taken Subject
-takeSubject s = then (takeNumber 2 s) λ house s₁. then (takeNumber 1 s₁) λ count s₂. then (then (takeNumbers count s₂) keepSix) λ six rest.
+takeSubject s = and_then (takeNumber 2 s) λ house s₁. and_then (takeNumber 1 s₁) λ count s₂. and_then (and_then (takeNumbers count s₂) keepSix) λ six rest.
     Some (record { house = house; names = six.numbers; count = count }, rest)
 
 -- A certificate's bytes taken apart, its values not looked at; nothing where they end too early or the tag is unknown.
 abbrev pub frame : List ℕ → Taken Certificate
 frame s =
-    then (takeNumber 2 s) λ issuer s₁. then (takeNumber 4 s₁) λ first s₂. then (takeNumber 4 s₂) λ last s₃.
-    then (takeSubject s₃) λ subject s₄. then (takeStatement s₄) λ statement rest.
+    and_then (takeNumber 2 s) λ issuer s₁. and_then (takeNumber 4 s₁) λ first s₂. and_then (takeNumber 4 s₂) λ last s₃.
+    and_then (takeSubject s₃) λ subject s₄. and_then (takeStatement s₄) λ statement rest.
     Some (record { issuer = issuer; subject = subject; first = first; last = last; statement = statement }, rest)
 
 -- What reading gives: an event and what follows it, or a fault and what of the delivery is still read.

@@ -1,7 +1,7 @@
 // Numbers as bytes, high byte first.
 ghost use Rattle.std.specs.Prelude.{◌≡◌, ◌+◌, ◌*◌, if◌then◌else◌, nat_lt, slice_set};
 ghost use Rattle.std.specs.Int.Digits.{number_from_digits};
-ghost use Rattle.wire.specs.Numbers.{takeNumber, takeNumbers, keepSix, then, split};
+ghost use Rattle.wire.specs.Numbers.{takeNumber, takeNumbers, keepSix, and_then, split};
 
 // A byte as a number.
 fn u8_of(bytes: [u8; 1]) -> u8
@@ -95,7 +95,7 @@ fn put(numbers: &mut [u16; 6], place: usize, number: u16)
 
 // As many numbers of two bytes as `count` says, and what follows them; those past the sixth are walked over.
 pub fn read_u16s(count: u8, bytes: &[u8]) -> Option<(Six, &[u8])>
-    ensures { split result ≡ then (takeNumbers count bytes.now) keepSix }
+    ensures { split result ≡ and_then (takeNumbers count bytes.now) keepSix }
 {
     let mut numbers = [0; 6];
     let mut rest = bytes;

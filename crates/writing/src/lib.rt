@@ -1,4 +1,6 @@
 // Events as bytes.
+#![tactic(auto)]
+
 ghost use Rattle.std.specs.List.{flat_map};
 ghost use Rattle.std.specs.Prelude.{◌≡◌, ◌++◌, is_ok, IfOk, if◌then◌else◌, OnOk};
 ghost use Rattle.wire.specs.Format.{subjectBytes, statementBytes, certificateBytes, eventBytes};

@@ -9,34 +9,34 @@ use Rattle.std.proofs.ByRecursion.{All-from_get_or}
 pub loop-gate-init : goal.loop-gate-init
 loop-gate-init c = (
   none-taken (state_of c.args.gate) (vec_items c.args.answers.now) c.args.piece.now c.args.last
-      (All-from_get_or (λ b. b < 256) c.args.piece.now 0 (λ i h. (c.type-inv.piece i).fits)),
+      (All-from_get_or (λ b. b < 256) c.args.piece.now 0 (λ i h. (c.type_inv.piece i).fits)),
   refl,
 )
 
 pub loop-gate-preserved : goal.loop-gate-preserved
 loop-gate-preserved c = (
-  one-taken (state_of c.args.gate) (state_of c.loop-gate.gate) (state_of c.take-first-next.result.0) (vec_items c.args.answers.now) c.args.piece.now c.args.last
-      (vec_items c.loop-gate.answers) c.loop-gate.rest.now c.take-first-next.result.1 c.take-first-next.result.2.now
-      c.loop-gate.invariant.0 (sym c.if-ready.ensures) c.take-first-next.ensures.value c.take-first-next.ensures.shorter
-      (vec_items c.note-within.new.answers) (sym c.if-note-within.ensures.value) c.note-within.ensures.items,
-  c.note-within.ensures.room ∙ c.loop-gate.invariant.1,
+  one-taken (state_of c.args.gate) (state_of c.loop-gate.gate) (state_of c.take_first-next.result.0) (vec_items c.args.answers.now) c.args.piece.now c.args.last
+      (vec_items c.loop-gate.answers) c.loop-gate.rest.now c.take_first-next.result.1 c.take_first-next.result.2.now
+      c.loop-gate.invariant.0 (sym c.if-ready.ensures) c.take_first-next.ensures.value c.take_first-next.ensures.shorter
+      (vec_items c.note_within.new.answers) (sym c.if-note_within.ensures.value) c.note_within.ensures.items,
+  c.note_within.ensures.room ∙ c.loop-gate.invariant.1,
 )
 
-pub returns-then-note-within : goal.returns-then-note-within
-returns-then-note-within c =
+pub returns-then-note_within : goal.returns-then-note_within
+returns-then-note_within c =
     let gate = state_of c.args.gate in
-    let next = state_of c.take-first-next.result.0 in
+    let next = state_of c.take_first-next.result.0 in
     let before = vec_items c.args.answers.now in
-    let after = vec_items c.note-within.new.answers in
+    let after = vec_items c.note_within.new.answers in
     let piece = c.args.piece.now in
     let taken = reading-ends gate (state_of c.loop-gate.gate) next before piece c.args.last (vec_items c.loop-gate.answers) c.loop-gate.rest.now
-    c.take-first-next.result.1 c.take-first-next.result.2.now c.loop-gate.invariant.0 (sym c.if-ready.ensures) c.take-first-next.ensures.value
-    c.take-first-next.ensures.shorter after (All-from_get_or (λ b. b < 256) piece 0 (λ i h. (c.type-inv.piece i).fits)) (sym c.if-note-within.ensures.value) c.note-within.ensures.items in
+    c.take_first-next.result.1 c.take_first-next.result.2.now c.loop-gate.invariant.0 (sym c.if-ready.ensures) c.take_first-next.ensures.value
+    c.take_first-next.ensures.shorter after (All-from_get_or (λ b. b < 256) piece 0 (λ i h. (c.type_inv.piece i).fits)) (sym c.if-note_within.ensures.value) c.note_within.ensures.items in
     record {
       taken = taken.whole;
       until = tt;
-      fewer = omega (arith, taken.fewer, c.note-within.new.answers.ok.0, c.args.answers.now.ok.0);
-      room = c.note-within.ensures.room ∙ c.loop-gate.invariant.1;
+      fewer = omega (arith, taken.fewer, c.note_within.new.answers.ok.0, c.args.answers.now.ok.0);
+      room = c.note_within.ensures.room ∙ c.loop-gate.invariant.1;
       promised = piece-kept gate before piece c.args.last next after None taken;
     }
 
@@ -48,7 +48,7 @@ returns c =
     let piece = c.args.piece.now in
     let rest = c.loop-gate.rest.now in
     let taken = piece-ends gate (state_of c.loop-gate.gate) before piece c.args.last after rest
-    (All-from_get_or (λ b. b < 256) piece 0 (λ i h. (c.type-inv.piece i).fits)) c.loop-gate.invariant.0 in
+    (All-from_get_or (λ b. b < 256) piece 0 (λ i h. (c.type_inv.piece i).fits)) c.loop-gate.invariant.0 in
     record {
       taken = taken.whole;
       until = elim c.loop-gate-test.branch [

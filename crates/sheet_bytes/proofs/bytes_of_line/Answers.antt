@@ -5,6 +5,6 @@ use Rattle.std.proofs.Common.{◌∙◌, arith}
 
 pub returns : goal.returns
 returns c = record {
-  value = c.bytes-of-steps.ensures ∙ line-length (certificatesOf c.args.registry.now) c.args.line.now c.steps-of.result.now c.steps-of.ensures.value;
+  value = c.bytes_of_steps.ensures ∙ line-length (certificatesOf c.args.registry.now) c.args.line.now c.steps_of.result.now c.steps_of.ensures.value;
   few = omega arith;
 }

@@ -5,8 +5,8 @@ use Rattle.std.proofs.lemmas.List.{length-map}
 use Rattle.turns.specs.Found.{line_of, linesFound}
 use Rattle.std.proofs.Common.{arith}
 
-pub overflow-add-bytes : goal.overflow-add-bytes
-overflow-add-bytes c = omega arith
+pub overflow_add-bytes : goal.overflow_add-bytes
+overflow_add-bytes c = omega arith
 
 pub loop-i-init : goal.loop-i-init
 loop-i-init c = counted_none c.args.marks.now (linesFound (certificatesOf c.args.registry.now) c.args.found.now)
@@ -14,8 +14,8 @@ loop-i-init c = counted_none c.args.marks.now (linesFound (certificatesOf c.args
 pub loop-i-preserved : goal.loop-i-preserved
 loop-i-preserved c =
     let cs = certificatesOf c.args.registry.now in
-    counted-more c.args.marks.now (linesFound cs c.args.found.now) c.loop-i.i c.loop-i.bytes c.bytes-at-bytes.result
-    (omega (arith, length-map c.args.found.now (line_of cs))) c.loop-i.invariant c.bytes-at-bytes.ensures.value c.bytes-at-bytes.ensures.few
+    counted-more c.args.marks.now (linesFound cs c.args.found.now) c.loop-i.i c.loop-i.bytes c.bytes_at-bytes.result
+    (omega (arith, length-map c.args.found.now (line_of cs))) c.loop-i.invariant c.bytes_at-bytes.ensures.value c.bytes_at-bytes.ensures.few
 
 pub returns : goal.returns
 returns c =

@@ -7,7 +7,7 @@ loop-mark-init c = tallied-none c.args.marks.now
 
 pub loop-mark-preserved : goal.loop-mark-preserved
 loop-mark-preserved c =
-    tallied-more c.args.marks.now c.loop-mark.mark-index c.loop-mark.lines c.count-of-lines.result c.loop-mark-test.true c.count-of-lines.ensures c.loop-mark.invariant
+    tallied-more c.args.marks.now c.loop-mark.mark-index c.loop-mark.lines c.count_of-lines.result c.loop-mark-test.true c.count_of-lines.ensures c.loop-mark.invariant
 
 pub returns : goal.returns
 returns c = record {

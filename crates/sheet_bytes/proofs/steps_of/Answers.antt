@@ -4,6 +4,6 @@ use Rattle.sheet_bytes.proofs.steps_of.Goals as goal
 
 pub returns : goal.returns
 returns c = record {
-  value = front-steps (certificatesOf c.args.registry.now) c.args.line.now c.count-steps.result c.count-steps.ensures.value;
-  few = front-few c.count-steps.result 6 c.args.line.now.steps.numbers c.count-steps.ensures.few;
+  value = front-steps (certificatesOf c.args.registry.now) c.args.line.now c.count_steps.result c.count_steps.ensures.value;
+  few = front-few c.count_steps.result 6 c.args.line.now.steps.numbers c.count_steps.ensures.few;
 }

@@ -8,8 +8,8 @@ use Rattle.std.proofs.Common.{arith}
 pub loop-i-init : goal.loop-i-init
 loop-i-init c = begun-none c.args.marks.now (linesFound (certificatesOf c.args.registry.now) c.args.found.now) c.args.out.now
 
-pub write-at-at-requires : goal.write-at-at-requires
-write-at-at-requires c =
+pub write_at-at-requires : goal.write_at-at-requires
+write_at-at-requires c =
     let cs = certificatesOf c.args.registry.now in
     let room = begun-room c.args.marks.now (linesFound cs c.args.found.now) c.args.out.now c.loop-i.out c.loop-i.i c.loop-i.at
     (omega (arith, length-map c.args.found.now (line_of cs))) c.loop-i.invariant in
@@ -18,9 +18,9 @@ write-at-at-requires c =
 pub loop-i-preserved : goal.loop-i-preserved
 loop-i-preserved c =
     let cs = certificatesOf c.args.registry.now in
-    begun_more c.args.marks.now (linesFound cs c.args.found.now) c.args.out.now c.loop-i.out c.write-at-at.new.out
-    c.loop-i.i c.loop-i.at c.write-at-at.result (omega (arith, length-map c.args.found.now (line_of cs))) c.loop-i.invariant
-    c.write-at-at.ensures.place c.write-at-at.ensures.after
+    begun_more c.args.marks.now (linesFound cs c.args.found.now) c.args.out.now c.loop-i.out c.write_at-at.new.out
+    c.loop-i.i c.loop-i.at c.write_at-at.result (omega (arith, length-map c.args.found.now (line_of cs))) c.loop-i.invariant
+    c.write_at-at.ensures.place c.write_at-at.ensures.after
 
 pub returns : goal.returns
 returns c =

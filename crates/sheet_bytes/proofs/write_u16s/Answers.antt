@@ -12,7 +12,7 @@ pub loop-i-preserved : goal.loop-i-preserved
 loop-i-preserved c =
     c.loop-i.invariant
     ∙ (number_more c.loop-i.out c.args.numbers.now c.args.at c.loop-i.i c.loop-i-test.true
-    ∙ ap (λ out. sets out (c.args.at + 2 * (c.loop-i.i + 1)) (flat_map (bytes 2) (drop (c.loop-i.i + 1) c.args.numbers.now))) (sym c.write-u16.ensures))
+    ∙ ap (λ out. sets out (c.args.at + 2 * (c.loop-i.i + 1)) (flat_map (bytes 2) (drop (c.loop-i.i + 1) c.args.numbers.now))) (sym c.write_u16.ensures))
 
 pub returns : goal.returns
 returns c = sym (c.loop-i.invariant ∙ numbers-all c.loop-i.out c.args.numbers.now (c.args.at + 2 * c.loop-i.i) c.loop-i.i (omega arith))

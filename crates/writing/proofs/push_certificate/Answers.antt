@@ -7,8 +7,8 @@ use Rattle.wire.specs.Numbers.{bytes}
 pub returns : goal.returns
 returns c =
     let certificate = c.args.certificate.now in
-    further (vec_items c.args.out.now) (bytes 2 certificate.issuer) _ c.in-ok-push-u16.ensures
-    (further (vec_items c.push-u16.new.out) (bytes 4 certificate.first) _ c.in-ok-push-u32.ensures
-    (further (vec_items c.push-u32.new.out) (bytes 4 certificate.last) _ c.in-ok-push-u32-2.ensures
-    (further (vec_items c.push-u32-2.new.out) (subjectBytes certificate.subject) _ c.in-ok-push-subject.ensures
-    c.in-ok-push-statement.ensures)))
+    further (vec_items c.args.out.now) (bytes 2 certificate.issuer) _ c.in_ok-push_u16.ensures
+    (further (vec_items c.push_u16.new.out) (bytes 4 certificate.first) _ c.in_ok-push_u32.ensures
+    (further (vec_items c.push_u32.new.out) (bytes 4 certificate.last) _ c.in_ok-push_u32-2.ensures
+    (further (vec_items c.push_u32-2.new.out) (subjectBytes certificate.subject) _ c.in_ok-push_subject.ensures
+    c.in_ok-push_statement.ensures)))

@@ -6,7 +6,7 @@ use Rattle.writing.proofs.push_names.Goals as goal
 pub loop-name-preserved : goal.loop-name-preserved
 loop-name-preserved c =
     further-name (vec_items c.args.out.now) c.args.names.now c.loop-name.name-index (omega arith)
-    c.loop-name.invariant c.in-ok-push-u16.ensures
+    c.loop-name.invariant c.in_ok-push_u16.ensures
 
 pub returns : goal.returns
 returns c = rw (take_all c.loop-name.name-index c.args.names.now (omega arith)) at c.loop-name.invariant

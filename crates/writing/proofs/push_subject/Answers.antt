@@ -10,6 +10,6 @@ returns c =
     let six : length subject.names ≡ 6 = omega arith in
     let capped : take (c.min-many.result - 0) subject.names ≡ take subject.count subject.names =
     rw (c.min-many.ensures, c.from.ensures) (take-capped subject.count 6 subject.names six) in
-    further (vec_items c.args.out.now) (bytes 2 subject.house) _ c.in-ok-push-u16.ensures
-    (further (vec_items c.push-u16.new.out) (subject.count ∷ []) _ c.in-ok-push.ensures.items
-    (c.in-ok-push-names.ensures ∙ ap (λ names. vec_items c.push.new.self ++ flat_map (bytes 2) names) capped))
+    further (vec_items c.args.out.now) (bytes 2 subject.house) _ c.in_ok-push_u16.ensures
+    (further (vec_items c.push_u16.new.out) (subject.count ∷ []) _ c.in_ok-push.ensures.items
+    (c.in_ok-push_names.ensures ∙ ap (λ names. vec_items c.push.new.self ++ flat_map (bytes 2) names) capped))

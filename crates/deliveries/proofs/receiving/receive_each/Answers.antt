@@ -10,14 +10,14 @@ use Rattle.std.proofs.lemmas.Result.{err_from_is_err_and}
 pub loop-delivery-init : goal.loop-delivery-init
 loop-delivery-init c = none-along (state_of c.args.gate) c.args.memory.now (vec_items c.new-answers.result) c.new-answers.ensures.items
 
-pub returns-in-err-gate : goal.returns-in-err-gate
-returns-in-err-gate c =
-    let p = err_from_is_err_and c.from-residual.result c.from-residual.ensures.1 in
+pub returns-in_err-gate : goal.returns-in_err-gate
+returns-in_err-gate c =
+    let p = err_from_is_err_and c.from_residual.result c.from_residual.ensures.1 in
     rw (p.1, p.2)
     (record {
-      value = stopped c.args.deliveries.now c.loop-delivery.delivery-index c.in-err-gate.field-0.0 (state_of c.args.gate) (state_of c.loop-delivery.gate)
-          (vec_items c.loop-delivery.answers) c.args.memory.now c.loop-delivery.memory c.take-delivery.new.memory c.loop-delivery.invariant c.loop-delivery.auto.memory
-          c.in-err-gate.ensures.value c.in-err-gate.ensures.memory;
+      value = stopped c.args.deliveries.now c.loop-delivery.delivery-index c.in_err-gate.field-0.0 (state_of c.args.gate) (state_of c.loop-delivery.gate)
+          (vec_items c.loop-delivery.answers) c.args.memory.now c.loop-delivery.memory c.take_delivery.new.memory c.loop-delivery.invariant c.loop-delivery.auto.memory
+          c.in_err-gate.ensures.value c.in_err-gate.ensures.memory;
       memory = tt;
       promised = tt;
     })
@@ -26,11 +26,11 @@ pub loop-delivery-preserved : goal.loop-delivery-preserved
 loop-delivery-preserved c =
     let ds = c.args.deliveries.now in
     let i = c.loop-delivery.delivery-index in
-    let d = c.as-slice.result.now in
-    rw (one_more ds i c.delivery-item.result d c.loop-delivery-test.true c.delivery-item.is c.as-slice.ensures.value)
-    (one_along (state_of c.args.gate) c.args.memory.now (bytes_of (take i ds)) (state_of c.loop-delivery.gate) (state_of c.in-ok-gate.gate)
-    (vec_items c.loop-delivery.answers) (vec_items c.take-delivery.new.answers) c.loop-delivery.memory c.take-delivery.new.memory d
-    c.take-delivery.ensures.bytes c.loop-delivery.invariant c.in-ok-gate.ensures.value c.in-ok-gate.ensures.memory)
+    let d = c.as_slice.result.now in
+    rw (one_more ds i c.delivery-item.result d c.loop-delivery-test.true c.delivery-item.is c.as_slice.ensures.value)
+    (one_along (state_of c.args.gate) c.args.memory.now (bytes_of (take i ds)) (state_of c.loop-delivery.gate) (state_of c.in_ok-gate.gate)
+    (vec_items c.loop-delivery.answers) (vec_items c.take_delivery.new.answers) c.loop-delivery.memory c.take_delivery.new.memory d
+    c.take_delivery.ensures.bytes c.loop-delivery.invariant c.in_ok-gate.ensures.value c.in_ok-gate.ensures.memory)
 
 pub returns : goal.returns
 returns c =

@@ -7,9 +7,9 @@ pub returns : goal.returns
 returns c =
     let gate = c.args.gate in
     let known : gate.owner < 1024 = omega (arith, gate.known) in
-    let value = rw c.new-answers.ensures.items at c.in-ok-gate.ensures.value in
+    let value = rw c.new-answers.ensures.items at c.in_ok-gate.ensures.value in
     record {
       value = value;
-      memory = c.in-ok-gate.ensures.memory;
-      promised = promise-kept (state_of gate) c.args.bytes.now _ (vec_items c.take-delivery.new.answers) known c.take-delivery.ensures.bytes value;
+      memory = c.in_ok-gate.ensures.memory;
+      promised = promise-kept (state_of gate) c.args.bytes.now _ (vec_items c.take_delivery.new.answers) known c.take_delivery.ensures.bytes value;
     }

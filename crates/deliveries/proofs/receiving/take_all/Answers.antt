@@ -10,10 +10,10 @@ loop-rest-init c = none-taken (state_of c.args.gate) (vec_items c.args.answers.n
 pub loop-rest-preserved : goal.loop-rest-preserved
 loop-rest-preserved c =
     let some : 0 < length c.loop-rest.rest.now = omega (arith, eqb-false _ 0 (sym c.loop-rest-test.ensures)) in
-    one-taken (state_of c.args.gate) (state_of c.loop-rest.gate) (state_of c.take-first-next.result.0) (vec_items c.args.answers.now) c.args.bytes.now
-    (vec_items c.loop-rest.answers) (vec_items c.note.new.answers) c.take-first-next.result.1 c.take-first-next.result.2.now
-    c.loop-rest.rest.now c.loop-rest.invariant some (c.take-first-next.ensures.shorter some) c.take-first-next.ensures.value
-    c.in-ok-note.ensures
+    one-taken (state_of c.args.gate) (state_of c.loop-rest.gate) (state_of c.take_first-next.result.0) (vec_items c.args.answers.now) c.args.bytes.now
+    (vec_items c.loop-rest.answers) (vec_items c.note.new.answers) c.take_first-next.result.1 c.take_first-next.result.2.now
+    c.loop-rest.rest.now c.loop-rest.invariant some (c.take_first-next.ensures.shorter some) c.take_first-next.ensures.value
+    c.in_ok-note.ensures
 
 pub returns : goal.returns
 returns c =

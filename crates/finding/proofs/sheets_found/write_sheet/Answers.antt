@@ -12,9 +12,9 @@ returns c =
     let cs = certificatesOf c.args.registry.now in
     let lines = linesFound cs c.args.found.now in
     let kept = picked c.args.marks.now lines in
-    let long : requestLength kept ≤ length c.args.request.now = omega (arith, c.marked-bytes-needed.ensures.value, c.if-request-needed.false) in (
-      omega (arith, c.marked-bytes-needed.ensures.value),
+    let long : requestLength kept ≤ length c.args.request.now = omega (arith, c.marked_bytes-needed.ensures.value, c.if-request-needed.false) in (
+      omega (arith, c.marked_bytes-needed.ensures.value),
       omega (arith, c.if-request-needed.false),
-      c.write-count.ensures ∙ sheet-put c.args.request.now (omega arith) kept _ long _
-          (c.count-marked.ensures lines (length-map c.args.found.now (line_of cs) ∙ sym c.requires.many)) c.write-marked.result c.write-marked.ensures,
+      c.write_count.ensures ∙ sheet-put c.args.request.now (omega arith) kept _ long _
+          (c.count_marked.ensures lines (length-map c.args.found.now (line_of cs) ∙ sym c.requires.many)) c.write_marked.result c.write_marked.ensures,
     )

@@ -6,7 +6,7 @@ use Rattle.std.proofs.Common.{◌∙◌, subst, arith}
 
 pub returns : goal.returns
 returns c =
-    subst (λ kept. SheetWritten kept c.args.request.now c.write-sheet.new.request c.write-sheet.result)
-    (same_kept (certificatesOf c.args.registry.now) c.args.owner c.args.wanted c.args.name-lines.now c.args.marks.now c.as-slice-found.ensures.value c.as-slice.ensures.value
-    c.mark-needed.ensures.value (omega (arith, c.requires.room, c.as-slice-found.ensures.len)))
-    c.write-sheet.ensures
+    subst (λ kept. SheetWritten kept c.args.request.now c.write_sheet.new.request c.write_sheet.result)
+    (same_kept (certificatesOf c.args.registry.now) c.args.owner c.args.wanted c.args.name_lines.now c.args.marks.now c.as_slice-found.ensures.value c.as_slice.ensures.value
+    c.mark_needed.ensures.value (omega (arith, c.requires.room, c.as_slice-found.ensures.len)))
+    c.write_sheet.ensures

@@ -11,13 +11,13 @@ returns c =
     let gate = c.args.self.now in
     let g = state_of gate in
     let d = c.args.bytes.now in
-    let value = c.read-and-ask.ensures.value in
+    let value = c.read_and_ask.ensures.value in
     let known : gate.owner < 1024 = omega (arith, gate.known) in
     let few : length g.certificates ≤ 1024 = omega (arith, gate.registry.few, gate.registry.certificates.ok.0) in
-    let small : Bytes d = All-from_get_or (λ b. b < 256) d 0 (λ i h. (c.type-inv.bytes i).fits) in
+    let small : Bytes d = All-from_get_or (λ b. b < 256) d 0 (λ i h. (c.type_inv.bytes i).fits) in
     record {
       value = value;
-      memory = c.read-and-ask.ensures.memory;
-      front = of-answer c.read-and-ask.result _ _ _ (λ a is long more. is ∙ sym (front-answered g few gate.registry.sound d more long)) value;
-      promised = of-answer c.read-and-ask.result _ _ _ (λ a is. answer-kept g d a known small is) value;
+      memory = c.read_and_ask.ensures.memory;
+      front = of-answer c.read_and_ask.result _ _ _ (λ a is long more. is ∙ sym (front-answered g few gate.registry.sound d more long)) value;
+      promised = of-answer c.read_and_ask.result _ _ _ (λ a is. answer-kept g d a known small is) value;
     }

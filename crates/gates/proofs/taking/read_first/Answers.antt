@@ -3,9 +3,9 @@ use Rattle.promise.proofs.Shorter.{shorter, read-writable}
 
 pub returns : goal.returns
 returns c =
-    let read = c.read-event.ensures in
+    let read = c.read_event.ensures in
     record {
       value = read.value;
-      writable = read-writable c.args.bytes.now c.read-event.result read.exact;
+      writable = read-writable c.args.bytes.now c.read_event.result read.exact;
       shorter = shorter c.args.bytes.now _ read.exact;
     }

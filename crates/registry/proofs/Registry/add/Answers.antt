@@ -4,13 +4,22 @@ use Rattle.registry.proofs.Registry.add.Goals as goal
 use Rattle.registry.specs.Numbered.{certificatesOf}
 use Rattle.std.proofs.Common.{vec_items, arith}
 
-pub invariant-of-self : goal.invariant-of-self
-invariant-of-self c =
+pub invariant_of-self : goal.invariant_of-self
+invariant_of-self c =
     let g = c.args.self.now in
     let certificate = c.args.certificate in
-    let pushed = c.push-reserved.ensures.items in
-    let so : Indexes (vec_items g.index) (vec_items c.push-reserved.new.self) =
+    let pushed = c.push_reserved.ensures.items in
+    let so : Indexes (vec_items g.index) (vec_items c.push_reserved.new.self) =
     rw pushed (indexes-push (vec_items g.index) (certificatesOf g) (indexed g) certificate c.requires.known) in
     let sound = in-range-push (certificatesOf g) certificate g.sound c.requires.sound in
     let counted = g.certificates.ok.0 in
-    (rw pushed sound, (omega arith, (omega arith, (so.rising, (so.agrees, (so.numbers, (omega arith, (omega arith, tt))))))))
+    record {
+      sound = rw pushed sound;
+      few = omega arith;
+      room = omega arith;
+      rising = so.rising;
+      agrees = so.agrees;
+      numbers = so.numbers;
+      fewer = omega arith;
+      space = omega arith
+    }

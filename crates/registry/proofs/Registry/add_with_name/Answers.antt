@@ -6,8 +6,8 @@ use Rattle.registry.specs.Numbered.{certificatesOf}
 use Rattle.registry.specs.declared.Entry.{Entry}
 use Rattle.std.specs.List.{insert}
 
-pub invariant-of-self : goal.invariant-of-self
-invariant-of-self c =
+pub invariant_of-self : goal.invariant_of-self
+invariant_of-self c =
     let g = c.args.self.now in
     let certificate = c.args.certificate in
     let place = c.place-place.result in
@@ -16,8 +16,17 @@ invariant-of-self c =
     let ok = c.insert.ensures.succeeds (omega arith) in
     let entered : vec_items c.insert.new.self ≡ insert (vec_items g.index) place entry = rw ok at c.insert.ensures.items in
     let longer : vec_len c.insert.new.self ≡ vec_len g.index + 1 = rw ok at c.insert.ensures.len in
-    let pushed = c.push-reserved.ensures.items in
-    let so : Indexes (vec_items c.insert.new.self) (vec_items c.push-reserved.new.self) =
+    let pushed = c.push_reserved.ensures.items in
+    let so : Indexes (vec_items c.insert.new.self) (vec_items c.push_reserved.new.self) =
     rw (entered, pushed) (indexes-entered (vec_items g.index) (certificatesOf g) (indexed g) certificate place entry c.place-place.ensures refl (omega arith) c.requires.new) in
     let sound = in-range-push (certificatesOf g) certificate g.sound c.requires.sound in
-    (rw pushed sound, (omega arith, (omega arith, (so.rising, (so.agrees, (so.numbers, (omega arith, (omega arith, tt))))))))
+    record {
+      sound = rw pushed sound;
+      few = omega arith;
+      room = omega arith;
+      rising = so.rising;
+      agrees = so.agrees;
+      numbers = so.numbers;
+      fewer = omega arith;
+      space = omega arith
+    }

@@ -23,18 +23,18 @@ returns-then-place-len c =
     none-states g c.args.house c.args.name c.place-place.result c.place-place.ensures
     (λ within. let none : ⊥ = omega (arith, g.index.ok.0) in absurd none)
 
-pub returns-then-is-of : goal.returns-then-is-of
-returns-then-is-of c =
+pub returns-then-is_of : goal.returns-then-is_of
+returns-then-is_of c =
     let g = c.args.self.now in
     let place = c.place-place.result in
     let entry = c.index.result.now in
     let within : place < length (vec_items g.index) = omega (arith, g.index.ok.0) in
-    let is = found c.args.house c.args.name (length (certificatesOf g)) (vec_items g.index) place entry c.place-place.ensures within c.index.ensures (sym c.if-is-of.ensures) in
+    let is = found c.args.house c.args.name (length (certificatesOf g)) (vec_items g.index) place entry c.place-place.ensures within c.index.ensures (sym c.if-is_of.ensures) in
     (sym is ∙ g.agrees c.args.house c.args.name, rw (← c.index.ensures) at (g.numbers place entry (omega arith) within))
 
-pub returns-else-is-of : goal.returns-else-is-of
-returns-else-is-of c =
+pub returns-else-is_of : goal.returns-else-is_of
+returns-else-is_of c =
     let g = c.args.self.now in
     let place = c.place-place.result in
     none-states g c.args.house c.args.name place c.place-place.ensures
-    (λ within. at_read (vec_items g.index) (λ e. is_of e c.args.house c.args.name ≡ false) place c.index.result.now within c.index.ensures (sym c.if-is-of.ensures))
+    (λ within. at_read (vec_items g.index) (λ e. is_of e c.args.house c.args.name ≡ false) place c.index.result.now within c.index.ensures (sym c.if-is_of.ensures))

@@ -4,15 +4,24 @@ use Rattle.registry.proofs.Registry.take_back.Goals as goal
 use Rattle.registry.specs.Numbered.{certificatesOf, revokeAt}
 use Rattle.std.proofs.Common.{◌≡◌, set, vec_items, ◌∙◌}
 
-pub invariant-of-self : goal.invariant-of-self
-invariant-of-self c =
+pub invariant_of-self : goal.invariant_of-self
+invariant_of-self c =
     let g = c.args.self.now in
     let cs = certificatesOf g in
     let place = c.args.place in
     let written : set cs place c.revoked-revoked.result ≡ revokeAt place cs =
     revoke-in-place cs place c.index.result.now c.revoked-revoked.result c.requires c.index.ensures c.revoked-revoked.ensures.value in
     let so : Indexes (vec_items g.index) (set cs place c.revoked-revoked.result) = rw written (indexes-revoked (vec_items g.index) cs (indexed g) place) in
-    (rw written (in-range-revoked place cs ∙ g.sound), (g.few, (g.room, (so.rising, (so.agrees, (so.numbers, (g.fewer, (g.space, tt))))))))
+    record {
+      sound = rw written (in-range-revoked place cs ∙ g.sound);
+      few = g.few;
+      room = g.room;
+      rising = so.rising;
+      agrees = so.agrees;
+      numbers = so.numbers;
+      fewer = g.fewer;
+      space = g.space
+    }
 
 pub returns : goal.returns
 returns c =

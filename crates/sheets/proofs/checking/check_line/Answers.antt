@@ -10,16 +10,16 @@ use Rattle.sheets.specs.Memory.{Remembers}
 use Rattle.sheets.specs.Sheets.{fact_of}
 use Rattle.std.proofs.lemmas.Result.{err_from_is_err_and}
 
-pub returns-in-err-judge-then-note : goal.returns-in-err-judge-then-note
-returns-in-err-judge-then-note c facts remembers =
-    let p = err_from_is_err_and c.from-residual-in-err-judge-then-note.result c.from-residual-in-err-judge-then-note.ensures.1 in
+pub returns-in_err-judge_then_note : goal.returns-in_err-judge_then_note
+returns-in_err-judge_then_note c facts remembers =
+    let p = err_from_is_err_and c.from_residual-in_err-judge_then_note.result c.from_residual-in_err-judge_then_note.ensures.1 in
     let q = c.args.question.now in
-    let line = c.in-ok-line.line in
-    let read = c.in-ok-line.ensures in
-    let judged = c.in-err-judge-then-note.ensures in
+    let line = c.in_ok-line.line in
+    let read = c.in_ok-line.ensures in
+    let judged = c.in_err-judge_then_note.ensures in
     rw (p.1, p.2) (
       read.value q.day q.right facts
-          ∙ ap (followed c.in-ok-line.rest.now) (judged-by remembers c.args.number q.day q.right line read.sound.ranged judged.paired
+          ∙ ap (followed c.in_ok-line.rest.now) (judged-by remembers c.args.number q.day q.right line read.sound.ranged judged.paired
           ∙ ap (showing line.certificate) (sym judged.value)),
       judged.names,
       judged.rights,
@@ -28,15 +28,15 @@ returns-in-err-judge-then-note c facts remembers =
 pub returns : goal.returns
 returns c facts remembers =
     let q = c.args.question.now in
-    let line = c.in-ok-line.line in
-    let last = c.in-ok-judge-then-note.field-0 in
-    let read = c.in-ok-line.ensures in
-    let judged = c.in-ok-judge-then-note.ensures in
+    let line = c.in_ok-line.line in
+    let last = c.in_ok-judge_then_note.field-0 in
+    let read = c.in_ok-line.ensures in
+    let judged = c.in_ok-judge_then_note.ensures in
     let fact = fact_of line.certificate last in
     let small = last-known (certificatesOf c.args.registry.now) _ _ c.args.number q.day q.right line last read.sound (sym judged.value) in (
       fact,
       read.value q.day q.right facts
-          ∙ ap (followed c.in-ok-line.rest.now) (judged-by remembers c.args.number q.day q.right line read.sound.ranged judged.paired
+          ∙ ap (followed c.in_ok-line.rest.now) (judged-by remembers c.args.number q.day q.right line read.sound.ranged judged.paired
           ∙ ap (showing line.certificate) (sym judged.value)),
       rw (judged.names, judged.rights)
           (remembers-more fact (sane-fact (certificatesOf c.args.registry.now) line.certificate last read.sound small) remembers),

@@ -5,4 +5,4 @@ use Rattle.sheets.proofs.Written.{holds-writable}
 use Rattle.sheets.proofs.laws.laws_of_sheets.Goals as goal
 
 pub returns : goal.returns
-returns c = record { sound = sound; complete = complete; decided = decided; checks-exactly = checks-exactly; holds-writable = holds-writable }
+returns c = record { sound = sound; complete = complete; decided = decided; checks_exactly = checks-exactly; holds_writable = holds-writable }

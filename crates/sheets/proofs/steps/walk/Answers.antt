@@ -4,15 +4,15 @@ use Rattle.sheets.proofs.Stepping.{walk_more, walk-not, walk-all}
 use Rattle.sheets.proofs.steps.walk.Goals as goal
 use Rattle.sheets.specs.Memory.{remembered}
 
-pub returns-in-default : goal.returns-in-default
-returns-in-default c =
+pub returns-in_default : goal.returns-in_default
+returns-in_default c =
     let line = c.args.line.now in
     let test = remembered (certificatesOf c.args.registry.now) c.args.names.now in
     let named : line.certificate.subject.count ≤ length line.certificate.subject.names = grind (arith, c.requires) in
     let housed : line.certificate.subject.count ≤ length line.houses.numbers = omega (arith, c.requires) in
     walk-not test line.certificate.subject.names line.houses.numbers line.certificate.subject.count named housed
     c.loop-i.i c.loop-i.at line.certificate.subject.house (omega arith)
-    (rw (c.from.ensures, c.from-in-loop-i.ensures) at c.in-default.ensures) c.loop-i.invariant
+    (rw (c.from.ensures, c.from-in-loop-i.ensures) at c.in_default.ensures) c.loop-i.invariant
 
 pub loop-i-preserved : goal.loop-i-preserved
 loop-i-preserved c =

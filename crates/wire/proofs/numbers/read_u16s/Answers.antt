@@ -2,8 +2,8 @@ use Rattle.wire.proofs.Sixes.{all_read, cut_short, one_more, placed}
 use Rattle.wire.proofs.numbers.read_u16s.Goals as goal
 use Rattle.std.proofs.Common.{◌∙◌, arith}
 
-pub returns-in-default : goal.returns-in-default
-returns-in-default c = cut_short _ c.loop-i.invariant (omega arith) c.in-default.ensures
+pub returns-in_default : goal.returns-in_default
+returns-in_default c = cut_short _ c.loop-i.invariant (omega arith) c.in_default.ensures
 
 pub loop-i-preserved : goal.loop-i-preserved
 loop-i-preserved c =

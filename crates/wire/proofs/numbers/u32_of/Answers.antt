@@ -3,4 +3,4 @@ use Rattle.wire.proofs.numbers.u32_of.Goals as goal
 use Rattle.std.proofs.Common.{◌∙◌, arith}
 
 pub returns : goal.returns
-returns c = c.from-be-bytes.ensures ∙ number-of-4 c.args.bytes (omega arith)
+returns c = c.from_be_bytes.ensures ∙ number-of-4 c.args.bytes (omega arith)

@@ -6,15 +6,15 @@ use Rattle.wire.specs.declared.events.Event.TheVariants.{Revoked}
 
 pub returns-in-1 : goal.returns-in-1
 returns-in-1 c =
-    let value : reading_of c.read-certificate.result ≡ readEvent c.args.bytes.now = search rules in
-    record { value = value; exact = exactly-read _ _ c.type-inv.bytes value }
+    let value : reading_of c.read_certificate.result ≡ readEvent c.args.bytes.now = search rules in
+    record { value = value; exact = exactly-read _ _ c.type_inv.bytes value }
 
-pub returns-in-default-read-u16 : goal.returns-in-default-read-u16
-returns-in-default-read-u16 c =
+pub returns-in_default-read_u16 : goal.returns-in_default-read_u16
+returns-in_default-read_u16 c =
     let value : stopped ≡ readEvent c.args.bytes.now = search rules in
-    record { value = value; exact = exactly-read _ _ c.type-inv.bytes value }
+    record { value = value; exact = exactly-read _ _ c.type_inv.bytes value }
 
-pub returns-in-Some-read-u16 : goal.returns-in-Some-read-u16
-returns-in-Some-read-u16 c =
-    let value : Ok (Revoked c.in-Some-read-u16.number, c.in-Some-read-u16.rest.now) ≡ readEvent c.args.bytes.now = search rules in
-    record { value = value; exact = exactly-read _ _ c.type-inv.bytes value }
+pub returns-in-Some-read_u16 : goal.returns-in-Some-read_u16
+returns-in-Some-read_u16 c =
+    let value : Ok (Revoked c.in-Some-read_u16.number, c.in-Some-read_u16.rest.now) ≡ readEvent c.args.bytes.now = search rules in
+    record { value = value; exact = exactly-read _ _ c.type_inv.bytes value }
