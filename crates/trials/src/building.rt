@@ -5,6 +5,11 @@ use sheets::checking::Question;
 use std::alloc::Global;
 use std::test::*;
 
+// Fails with the note where the fact does not hold.
+pub(crate) fn check(holds: bool, note: &str) -> Result<(), Fail> {
+    if holds { Ok(()) } else { Err(Fail::new(note)) }
+}
+
 // The set of right 3 alone.
 const RIGHT_3: u64 = 8;
 
@@ -65,7 +70,7 @@ pub(crate) fn gives_only(issuer: u16, subject: Subject) -> Certificate {
 pub(crate) fn registry_of(heap: Global, certificates: &[Certificate]) -> Result<Registry, Fail> {
     let mut registry = Registry::new(heap)?;
     for certificate in certificates {
-        assert!(registry.issue(*certificate).is_ok(), "certificate refused");
+        check(registry.issue(*certificate).is_ok(), "certificate refused")?;
     }
     Ok(registry)
 }

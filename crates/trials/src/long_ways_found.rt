@@ -1,5 +1,5 @@
 // Sheets that are found over a thousand names, and for a name that means as many houses.
-use crate::building::{by, gives_only, may, names, plain};
+use crate::building::{by, check, gives_only, may, names, plain};
 use crate::sheets_found::Finder;
 use certificates::Certificate;
 use sheets::checking;
@@ -18,11 +18,10 @@ fn link(name: u16) -> Certificate {
 
 impl Finder {
     fn issue(&mut self, certificate: Certificate) -> Result<(), Fail> {
-        assert!(
+        check(
             self.registry.issue(certificate).is_ok(),
-            "certificate refused"
-        );
-        Ok(())
+            "certificate refused",
+        )
     }
 
     // House 2 has the right by the first name, on a sheet of 1,001 lines, which holds.
@@ -39,8 +38,7 @@ impl Finder {
         let Ok(answer) = checking::check(&self.registry, &may(2), 1001, lines, memory) else {
             return Err(Fail::new("short memory"));
         };
-        assert!(answer.is_ok(), "refused");
-        Ok(())
+        check(answer.is_ok(), "refused")
     }
 }
 

@@ -1,6 +1,6 @@
 // Sheets whose bytes are written out by hand: each holds, or is refused with the fault that is told of it.
 use crate::building::{
-    asked, by, by_two, certificate, gives, gives_only, may, names, plain, registry_of,
+    asked, by, by_two, certificate, check, gives, gives_only, may, names, plain, registry_of,
 };
 use certificates::{Certificate, Statement};
 use registry::Registry;
@@ -70,8 +70,7 @@ impl Desk {
 
     fn holds(&mut self, question: Question, count: u32, lines: &[u8]) -> Result<(), Fail> {
         let answer = self.answer(question, count, lines)?;
-        assert!(answer.is_ok(), "refused");
-        Ok(())
+        check(answer.is_ok(), "refused")
     }
 
     fn refuses(
@@ -85,10 +84,9 @@ impl Desk {
             return Err(Fail::new("not refused"));
         };
         let told = fault.told();
-        assert_eq!(told.number, meant.number, "number");
-        assert_eq!(told.line, meant.line, "line");
-        assert_eq!(told.step, meant.step, "step");
-        Ok(())
+        check(told.number == meant.number, "number")?;
+        check(told.line == meant.line, "line")?;
+        check(told.step == meant.step, "step")
     }
 }
 
@@ -275,11 +273,11 @@ fn lines_skipped(rt: HostRuntime) -> Result<(), Fail> {
     let Some(rest) = skip_lines(&registry, 2, bytes) else {
         return Err(Fail::new("two lines not skipped"));
     };
-    assert!(rt; rest == b"\x07", "another rest");
+    assert!(rt; rest == b"\x07".as_slice(), "another rest");
     let Some(rest) = skip_lines(&registry, 0, bytes) else {
         return Err(Fail::new("no lines not skipped"));
     };
-    assert!(rt; rest == bytes, "no lines, but bytes skipped");
+    assert!(rt; rest == bytes.as_slice(), "no lines, but bytes skipped");
     // the third is cut; a house is cut; a number that no certificate has
     assert!(rt; skip_lines(&registry, 3, bytes).is_none(), "number cut");
     assert!(rt;

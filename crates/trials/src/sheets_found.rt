@@ -1,5 +1,7 @@
 // Sheets that are found: the request is written as the bytes that are written out by hand, and its sheet holds.
-use crate::building::{asked, by, by_two, gives, gives_only, may, names, plain, registry_of};
+use crate::building::{
+    asked, by, by_two, check, gives, gives_only, may, names, plain, registry_of,
+};
 use certificates::Certificate;
 use finding::sheets_found::{Unfound, find};
 use registry::Registry;
@@ -68,10 +70,9 @@ impl Finder {
         let Ok(long) = self.find(question, request.as_mut_slice()) else {
             return Err(Fail::new("no sheet"));
         };
-        assert!(long.checked_sub(4) == Some(meant.len()), "another length");
+        check(long.checked_sub(4) == Some(meant.len()), "another length")?;
         let whole = request_of(self.heap, meant)?;
-        assert!(request.as_slice() == whole.as_slice(), "another request");
-        Ok(())
+        check(request.as_slice() == whole.as_slice(), "another request")
     }
 
     fn holds(&mut self, question: &Question, meant: &[u8]) -> Result<(), Fail> {
@@ -83,8 +84,7 @@ impl Finder {
         let Ok(answer) = checking::check(&self.registry, question, count, lines, memory) else {
             return Err(Fail::new("short memory"));
         };
-        assert!(answer.is_ok(), "refused");
-        Ok(())
+        check(answer.is_ok(), "refused")
     }
 
     // The number of lines and the lines that are written, which hold.
@@ -100,8 +100,7 @@ impl Finder {
             return Err(Fail::new("a sheet, or another refusal"));
         };
         let before = request_of(self.heap, b"")?;
-        assert!(request.as_slice() == before.as_slice(), "request written");
-        Ok(())
+        check(request.as_slice() == before.as_slice(), "request written")
     }
 }
 

@@ -10,7 +10,7 @@ answer-requires c =
     let (ready, all) = c.in-Ok-find_lines.ensures in
     let (size, numbers) = sizes c.args.names.now c.args.name_lines.now ready.0 in
     let few = found-few cs c.args.question.now (range-covers cs c.args.registry.now.sound) (house-known c.args.question.now ready.1) numbers all in
-    let long : length c.as_mut_slice.result.now ≡ c.len.result * 1024 = c.as_mut_slice.ensures.len ∙ c.in-Ok.ensures.made.1 in
+    let long : length c.as_mut_slice.result.now ≡ c.len.result * 1024 = c.as_mut_slice.ensures.len ∙ c.in-Ok.ensures.len in
     record { room = omega (arith, c.in-Ok-find_lines.lines.found.ok.0, c.len.ensures.value); few = omega (arith, c.len.ensures.few) }
 
 pub returns-in-Ok-find_lines : goal.returns-in-Ok-find_lines
