@@ -1,6 +1,6 @@
 -- A delivery, event by event: what is still to be read gives the same as the whole. Assumes nothing.
-use Rattle.std.proofs.Common.{◌≡◌, ℕ, zero, suc, ◌<◌, ◌≤◌, List, [], ◌∷◌, ◌++◌, map, length, Some, None, Option, sym, refl, ap, ◌∙◌, append_assoc, append-nil, arith}
-use Rattle.promise.specs.States.{State, takeFirst, Delivered, noting, deliverWithin, deliver}
+use Rattle.std.proofs.Common.{◌≡◌, ℕ, zero, suc, ◌<◌, ◌≤◌, List, [], ◌∷◌, ◌++◌, map, length, Option, sym, refl, ap, ◌∙◌, append-nil, arith}
+use Rattle.promise.specs.States.{State, takeFirst, noting, deliverWithin, deliver}
 use Rattle.promise.proofs.Told.{told-noting}
 use Rattle.std.specs.Option.{option_to_list}
 use Rattle.promise.specs.Requests.{told}

@@ -1,5 +1,5 @@
 -- What is written into the parts of a request. Assumes nothing.
-use Rattle.std.proofs.Common.{◌≡◌, ℕ, ◌+◌, ◌-◌, ◌<◌, ◌≤◌, List, [], ◌++◌, length, take, drop, Ok, Err, Result, sym, refl, ap, ◌∙◌, ap₂, append-nil, arith, length-drop, drop-drop, MatchResult}
+use Rattle.std.proofs.Common.{◌≡◌, ℕ, ◌-◌, ◌≤◌, List, [], ◌++◌, length, take, drop, Ok, Err, Result, sym, ap, ◌∙◌, ap₂, append-nil, arith, length-drop, drop-drop, MatchResult}
 use Rattle.finding.specs.Asking.{requestLength, withSheet}
 use Rattle.sheet_bytes.specs.Writing.{Wrote, Refused}
 use Rattle.sheet_bytes.specs.declared.TooShort.{TooShort}

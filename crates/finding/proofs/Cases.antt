@@ -1,5 +1,5 @@
 -- Each row of the table by computing, and who may by the laws. Assumes nothing.
-use Rattle.std.proofs.Common.{◌≡◌, ℕ, ◌<◌, true, false, List, [], ◌∷◌, length, is_some, Some, None, Decides, Option, sym, refl, ap, subst, ⊎_elim, lit<}
+use Rattle.std.proofs.Common.{◌≡◌, ℕ, ◌<◌, List, [], ◌∷◌, length, is_some, Some, None, Decides, Option, sym, refl, subst, ⊎_elim, lit<}
 use Rattle.certificates.specs.Meaning.{May}
 use Rattle.certificates.specs.declared.Certificate.{Certificate}
 use Rattle.finding.proofs.Lawful.{finds-lawfully}

@@ -1,5 +1,5 @@
 -- What the answers of finding are worth, by its laws. Assumes nothing.
-use Rattle.std.proofs.Common.{◌≡◌, ℕ, ◌*◌, ◌<◌, ◌≤◌, true, ◌&&◌, leb, List, [], ◌∷◌, length, Some, None, Ok, Err, Result, arith}
+use Rattle.std.proofs.Common.{◌≡◌, ℕ, ◌≤◌, true, ◌&&◌, leb, List, [], ◌∷◌, length, Some, Ok, Err, Result, arith}
 use Rattle.certificates.specs.Certificates.{WellFormed}
 use Rattle.certificates.specs.declared.Certificate.{Certificate}
 use Rattle.finding.proofs.Lawful.{finds-lawfully}

@@ -4,7 +4,6 @@ use Rattle.certificates.specs.Meaning.{May}
 use Rattle.certificates.specs.declared.Certificate.{Certificate}
 use Rattle.certificates.specs.declared.Statement.{Statement}
 use Rattle.certificates.specs.declared.Statement.TheVariants.{Name, Rights}
-use Rattle.certificates.specs.declared.Subject.{Subject}
 use Rattle.finding.specs.Finding.{findSheet}
 use Rattle.rounds.specs.Rounds.{rounds, written, shownAtEnd}
 use Rattle.sheets.specs.Bytes.{sheetBytes}

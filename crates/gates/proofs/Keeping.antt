@@ -1,5 +1,5 @@
 -- What stays when no certificate has the number that is taken back. Assumes nothing.
-use Rattle.std.proofs.Common.{◌≡◌, ℕ, Bool, true, false, cond, ltb, List, length, Some, None, Ok, Err, Result, refl, ap, ◌∙◌, arith}
+use Rattle.std.proofs.Common.{◌≡◌, ℕ, Bool, true, false, cond, ltb, List, length, Some, None, Ok, Err, Result, refl, ◌∙◌, arith}
 use Rattle.certificates.specs.declared.Certificate.{Certificate}
 use Rattle.promise.specs.States.{State, Taken, revokeAt, revoke}
 use Rattle.registry.proofs.Kept.{revoke-past}

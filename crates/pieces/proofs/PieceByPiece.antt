@@ -1,11 +1,11 @@
 -- Events of a piece, whatever follows it. Assumes nothing.
-use Rattle.std.proofs.Common.{◌≡◌, ℕ, zero, suc, ◌+◌, ◌<◌, ◌≤◌, Bool, true, false, cond, not, ◌&&◌, ◌||◌, eqb, ltb, leb, ◌⊎◌, List, [], ◌∷◌, ◌++◌, map, length, Some, None, Ok, Err, Option, sym, refl, ap, ◌∙◌, inl, inr, ⊎_elim, append-nil, arith, length-append}
+use Rattle.std.proofs.Common.{◌≡◌, ℕ, zero, suc, ◌+◌, ◌<◌, ◌≤◌, Bool, true, false, cond, not, ◌||◌, eqb, ltb, leb, ◌⊎◌, List, [], ◌∷◌, ◌++◌, map, length, Some, None, Ok, Err, Option, sym, refl, ap, ◌∙◌, inl, inr, ⊎_elim, append-nil, arith, length-append}
 use Rattle.promise.proofs.Told.{told-noting}
 use Rattle.promise.proofs.Readable.{rest-bytes}
 use Rattle.promise.proofs.Shorter.{shorter}
 use Rattle.promise.specs.States.{State, Taken as AfterEvent, take, takeFirst, Delivered, noting, deliverWithin, deliver}
 use Rattle.promise.specs.Happened.{read_on}
-use Rattle.pieces.specs.Pieces.{goneOn, PieceTaken, leftLength, stopped, ready}
+use Rattle.pieces.specs.Pieces.{PieceTaken, leftLength, stopped, ready}
 use Rattle.promise.specs.Promise.{Bytes}
 use Rattle.promise.specs.Requests.{told}
 use Rattle.promise.specs.declared.answers.Answer.{Answer}

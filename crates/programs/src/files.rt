@@ -30,11 +30,7 @@ pub fn open_file(rt: &HostRuntime, name: &str) -> anyhow::Result<File> {
 }
 
 // Reads on behind the bytes that are there; false at the end of the file. Which bytes come, only a run shows.
-pub fn read_on(
-    file: &mut File,
-    name: &str,
-    bytes: &mut Vec<u8>,
-) -> anyhow::Result<bool>
+pub fn read_on(file: &mut File, name: &str, bytes: &mut Vec<u8>) -> anyhow::Result<bool>
     ensures { ReadOn bytes.old.items bytes.new.items result }
 {
     let mut piece = [0u8; PIECE];

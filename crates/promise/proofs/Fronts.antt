@@ -2,7 +2,7 @@
 use Rattle.std.proofs.Common.{◌≡◌, ℕ, zero, suc, ◌+◌, ◌*◌, ◌<◌, ◌≤◌, Bool, true, false, cond, ◌&&◌, ltb, leb, ◌⊎◌, List, [], ◌∷◌, ◌++◌, length, take, drop, Some, Ok, Err, Result, sym, refl, ap, ◌∙◌, inl, inr, arith}
 use Rattle.certificates.proofs.Ranges.{ranged}
 use Rattle.certificates.specs.declared.Certificate.{Certificate}
-use Rattle.promise.specs.Requests.{Head, takeHead, decided, answerHead, answer}
+use Rattle.promise.specs.Requests.{takeHead, decided, answerHead, answer}
 use Rattle.promise.specs.States.{State}
 use Rattle.promise.specs.declared.answers.Answer.{Answer}
 use Rattle.promise.specs.declared.answers.Answer.TheVariants.{Refused}

@@ -1,5 +1,5 @@
 -- The promise of the whole. Assumes nothing.
-use Rattle.std.proofs.Common.{◌≡◌, ℕ, ◌*◌, ◌<◌, ◌≤◌, List, [], ◌∷◌, length, Some, arith}
+use Rattle.std.proofs.Common.{ℕ, ◌≤◌, List, length, arith}
 use Rattle.certificates.proofs.Meaning.{grows, from-owner}
 use Rattle.certificates.specs.Meaning.{May}
 use Rattle.promise.proofs.Asking.{sheet-for, lets-in}
@@ -13,7 +13,6 @@ use Rattle.promise.specs.Requests.{receive, run}
 use Rattle.promise.specs.declared.answers.Answer.TheVariants.{Open}
 use Rattle.sheets.proofs.SheetRead.{checks-exactly}
 use Rattle.sheets.proofs.Sound.{sound}
-use Rattle.sheets.specs.Sheets.{Line}
 use mathlib.Core.List.{Memᴰ}
 
 module _ (owner : ℕ) (ds : List (List ℕ)) (g : State) (r : Ran owner ds g) where

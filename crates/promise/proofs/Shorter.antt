@@ -1,7 +1,7 @@
 -- An event that is read can be written, and leaves less to read. Assumes nothing.
-use Rattle.std.proofs.Common.{◌≡◌, ℕ, zero, suc, ◌<◌, ◌≤◌, List, [], ◌∷◌, ◌++◌, length, IfOk, Ok, Err, Result, refl, ap, inl, inr, arith, length-append, Bor}
+use Rattle.std.proofs.Common.{ℕ, ◌<◌, List, length, IfOk, Ok, Err, Result, refl, ap, inl, inr, arith, length-append, Bor}
 use Rattle.promise.specs.Happened.{read_on}
-use Rattle.wire.specs.Exact.{Exactly, Writable, fieldsBytes}
+use Rattle.wire.specs.Exact.{Exactly, Writable}
 use Rattle.wire.specs.Format.{eventBytes}
 use Rattle.wire.specs.Reading.{Reading, reading_of}
 use Rattle.wire.specs.declared.events.Event.{Event}

@@ -2,7 +2,6 @@
 use Rattle.std.specs.Prelude.{◌≡◌, ℕ, ◌*◌, ◌<◌, ◌≤◌, List, [], ◌∷◌, ◌++◌, length, Some}
 use Rattle.certificates.specs.Laws.{Grows, From-owner}
 use Rattle.certificates.specs.Meaning.{May}
-use Rattle.certificates.specs.declared.Certificate.{Certificate}
 use Rattle.promise.specs.States.{State}
 use Rattle.promise.specs.Happened.{happened, today, standing, came}
 use Rattle.promise.specs.Requests.{Head, takeHead, receive, run}

@@ -1,5 +1,5 @@
 -- A line judged by the facts in memory is judged by the facts that are shown. Assumes nothing.
-use Rattle.std.proofs.Common.{◌≡◌, ℕ, zero, suc, ◌+◌, ◌<◌, Bool, true, false, cond, ◌&&◌, leb, List, [], ◌∷◌, length, Some, None, Ok, Err, Option, Result, sym, refl, ap, ◌∙◌, add-zero, zero-add, arith}
+use Rattle.std.proofs.Common.{◌≡◌, ℕ, suc, ◌+◌, ◌<◌, Bool, true, false, cond, leb, List, [], ◌∷◌, length, Some, None, Ok, Err, Option, Result, sym, refl, ap, ◌∙◌, add-zero, zero-add, arith}
 use Rattle.certificates.proofs.Ranges.{ranged}
 use Rattle.certificates.specs.Certificates.{names_of, in_range, valid}
 use Rattle.certificates.specs.Rights.{member}
@@ -10,7 +10,7 @@ use Rattle.facts.specs.Table.{bit_at}
 use Rattle.sheets.proofs.Remembering.{name-shown, right-shown}
 use Rattle.sheets.proofs.Shown.{impossible}
 use Rattle.sheets.specs.Checking.{knownHouses, unshown, stepped, walked, allowed, judged}
-use Rattle.sheets.specs.Facts.{Fact, NameMeans, HasRight, shown}
+use Rattle.sheets.specs.Facts.{Fact, NameMeans, shown}
 use Rattle.sheets.specs.Judging.{permits, stepFault, afterwards, judgedBy}
 use Rattle.sheets.specs.Memory.{Remembers, remembered}
 use Rattle.sheets.specs.Reading.{housesOf, walkBy, walkedBy}

@@ -1,14 +1,13 @@
 -- What reading the parts of a line says of its check. Assumes nothing.
-use Rattle.std.proofs.Common.{◌≡◌, ℕ, zero, suc, ◌<◌, ◌≤◌, ltb, List, [], ◌∷◌, length, take, Some, None, Ok, Err, sym, refl, ap, ◌∙◌, subst, arith}
+use Rattle.std.proofs.Common.{◌≡◌, ℕ, zero, suc, ◌<◌, ◌≤◌, ltb, List, [], ◌∷◌, length, take, Some, None, sym, refl, ap, ◌∙◌}
 use Rattle.certificates.specs.declared.Certificate.{Certificate}
 use Rattle.sheets.proofs.Shown.{impossible}
 use Rattle.sheets.specs.Checking.{judged, followed, housed, numbered, checkLine}
 use Rattle.sheets.specs.Facts.{Fact}
 use Rattle.sheets.specs.Sheets.{certificateAt}
-use Rattle.std.proofs.lemmas.Bool.{cond-true, cond-false, lt-ltb, le-ltb}
+use Rattle.std.proofs.lemmas.Bool.{cond-true, lt-ltb}
 use Rattle.wire.proofs.Formed.{places-front}
 use Rattle.wire.specs.Numbers.{Taken, takeNumber, takeNumbers, places, keepSix, and_then}
-use Rattle.wire.specs.declared.faults.Fault.TheVariants.{LineCut, LineUnknown}
 use Rattle.wire.specs.declared.numbers.Six.{Six}
 
 -- as many numbers are taken as were asked for

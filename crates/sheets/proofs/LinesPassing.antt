@@ -1,10 +1,10 @@
 -- Lines one after the other: what is left to check gives the same as the whole. Assumes nothing.
-use Rattle.std.proofs.Common.{◌≡◌, ℕ, zero, suc, ◌+◌, ◌-◌, ◌<◌, ◌≤◌, List, ◌∷◌, Ok, Err, Result, sym, refl, ap, ◌∙◌, add-one, arith}
+use Rattle.std.proofs.Common.{◌≡◌, ℕ, suc, ◌+◌, ◌-◌, ◌<◌, ◌≤◌, List, ◌∷◌, Ok, Err, refl, ap, ◌∙◌, add-one, arith}
 use Rattle.certificates.specs.declared.Certificate.{Certificate}
-use Rattle.sheets.specs.Checking.{Checked, going, checkLine, checkLines}
+use Rattle.sheets.specs.Checking.{going, checkLine, checkLines}
 use Rattle.sheets.specs.Facts.{Fact}
 use Rattle.sheets.specs.Memory.{Remembers}
-use Rattle.sheets.specs.Passing.{AfterLine, LinePassed, LinesPassed}
+use Rattle.sheets.specs.Passing.{LinePassed, LinesPassed}
 use Rattle.sheets.specs.declared.checking.Question.{Question}
 use Rattle.wire.specs.declared.faults.Fault.{Fault}
 

@@ -1,5 +1,5 @@
 -- Lines walked over one after the other. Assumes nothing.
-use Rattle.std.proofs.Common.{◌≡◌, ℕ, suc, ◌+◌, ◌-◌, ◌<◌, ◌≤◌, List, Some, None, Option, sym, refl, ap, ◌∙◌, arith}
+use Rattle.std.proofs.Common.{◌≡◌, ℕ, suc, ◌+◌, ◌-◌, ◌<◌, ◌≤◌, List, Some, None, Option, sym, ap, ◌∙◌, arith}
 use Rattle.certificates.specs.declared.Certificate.{Certificate}
 use Rattle.sheets.specs.Reading.{skipLine, onward, skipLines}
 

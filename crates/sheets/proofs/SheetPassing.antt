@@ -1,13 +1,13 @@
 -- From wiped memory to the answer: the start, the lines, and the conclusion. Assumes nothing.
 use Rattle.std.proofs.Common.{◌≡◌, ℕ, ◌<◌, ◌≤◌, true, false, cond, ◌&&◌, ◌||◌, leb, List, [], ◌∷◌, length, replicate, Ok, Err, Result, sym, refl, ap, ◌∙◌, ap₂, arith}
 use Rattle.certificates.specs.declared.Certificate.{Certificate}
-use Rattle.facts.specs.Table.{bit_at, withBit}
+use Rattle.facts.specs.Table.{withBit}
 use Rattle.sheets.proofs.Remembering.{right-shown}
 use Rattle.sheets.specs.Checking.{checkLines, concluded}
 use Rattle.sheets.specs.Facts.{Fact}
 use Rattle.sheets.specs.Memory.{Remembers, namesTable, rightsTable}
 use Rattle.sheets.specs.Passing.{LinesPassed, entitledBy, concludedBy, askable, Wiped, Done}
-use Rattle.sheets.specs.Sheets.{start, entitled}
+use Rattle.sheets.specs.Sheets.{start}
 use Rattle.sheets.specs.declared.checking.Question.{Question}
 use Rattle.std.proofs.lemmas.Bool.{and_parts, leb-true}
 use Rattle.wire.specs.declared.faults.Fault.{Fault}

@@ -1,5 +1,5 @@
 -- Loops over the houses and steps of a line: what is left gives the same as the whole. Assumes nothing.
-use Rattle.std.proofs.Common.{◌≡◌, ℕ, zero, suc, ◌+◌, ◌<◌, ◌≤◌, Bool, true, false, cond, ◌&&◌, leb, List, [], ◌∷◌, length, get_or, take, drop, Some, None, Ok, Err, Option, Result, sym, refl, ap, ◌∙◌, ap₂, add-one, arith, get_or-take}
+use Rattle.std.proofs.Common.{◌≡◌, ℕ, ◌+◌, ◌<◌, ◌≤◌, Bool, true, false, cond, ◌&&◌, leb, List, [], length, get_or, take, drop, Some, None, Ok, Err, Option, Result, sym, refl, ap, ◌∙◌, add-one, arith, get_or-take}
 use Rattle.sheets.specs.Checking.{knownHouses}
 use Rattle.sheets.specs.Reading.{walkBy}
 use Rattle.std.proofs.lemmas.List.{at_drop_more, drop_more, drop_all, length-take, length-take-le}

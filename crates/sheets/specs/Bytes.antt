@@ -1,5 +1,5 @@
 -- The bytes of a sheet. Assumes nothing.
-use Rattle.std.specs.Prelude.{◌≡◌, ℕ, ◌^◌, ◌<◌, true, List, ◌++◌, length}
+use Rattle.std.specs.Prelude.{◌≡◌, ℕ, ◌<◌, true, List, ◌++◌, length}
 use Rattle.certificates.specs.declared.Certificate.{Certificate}
 use Rattle.sheets.specs.Checking.{knownHouses}
 use Rattle.sheets.specs.Sheets.{Line, certificateAt}

@@ -1,5 +1,5 @@
 -- The reader of a certificate's fields is exact. Assumes nothing.
-use Rattle.std.proofs.Common.{◌≡◌, ℕ, ◌^◌, ◌<◌, Bool, true, false, cond, eqb, List, [], ◌∷◌, ◌++◌, length, Some, refl, ap, ◌∙◌, arith}
+use Rattle.std.proofs.Common.{◌≡◌, ℕ, ◌^◌, ◌<◌, Bool, true, false, cond, eqb, List, ◌∷◌, ◌++◌, length, Some, refl, ap, ◌∙◌, arith}
 use Rattle.certificates.specs.declared.Certificate.{Certificate}
 use Rattle.certificates.specs.declared.Statement.{Statement}
 use Rattle.certificates.specs.declared.Statement.TheVariants.{Name, Rights}
@@ -10,7 +10,7 @@ use Rattle.wire.proofs.Numerals.{number-part, byte-part, names-part}
 use Rattle.wire.proofs.Parts.{impossible, Part, both, turned, told-by, chosen, never}
 use Rattle.wire.specs.Exact.{fieldsBytes, certificateOf, StatementFits, Fits}
 use Rattle.wire.specs.Format.{statementBytes}
-use Rattle.wire.specs.Numbers.{bytes, takeNumber, and_then, takeNumbers, places, keepSix}
+use Rattle.wire.specs.Numbers.{bytes, takeNumber, and_then, places}
 use Rattle.wire.specs.Reading.{takeRights, takeStated, takeStatement, takeSubject, frame}
 use Rattle.wire.specs.declared.numbers.Six.{Six}
 

@@ -8,7 +8,7 @@ use Rattle.std.specs.List.{flat_map, AllByRecursion as All}
 use Rattle.std.specs.Int.Digits.{number_from_digits, AllBelowBase}
 use Rattle.wire.proofs.BigEndian.{number-bytes, bytes-number}
 use Rattle.wire.proofs.Parts.{impossible, Part, both, turned, told-by}
-use Rattle.wire.specs.Numbers.{bytes, takeNumber, and_then, takeNumbers}
+use Rattle.wire.specs.Numbers.{bytes, takeNumber, takeNumbers}
 
 pub length-bytes : (k n : ℕ) → length (bytes k n) ≡ k
 unfolding bytes

@@ -1,4 +1,4 @@
-use Rattle.std.proofs.Common.{◌≡◌, ◌<◌, Some, None, vec_items, sym, refl, ◌∙◌, inl, inr, arith}
+use Rattle.std.proofs.Common.{◌<◌, Some, None, vec_items, sym, refl, ◌∙◌, inl, inr, arith}
 use Rattle.gates.specs.Gates.{state_of}
 use Rattle.pieces.proofs.Joined.{piece-kept}
 use Rattle.pieces.proofs.PieceByPiece.{none-taken, one-taken, reading-ends, piece-ends}

@@ -1,4 +1,4 @@
-use Rattle.std.proofs.Common.{◌≡◌, ◌<◌, vec_items, ap, ◌∙◌, arith, rules}
+use Rattle.std.proofs.Common.{◌<◌, vec_items, arith}
 use Rattle.deliveries.proofs.receiving.receive_kept.Goals as goal
 use Rattle.gates.specs.Gates.{state_of}
 use Rattle.promise.proofs.OnCall.{promise-kept}

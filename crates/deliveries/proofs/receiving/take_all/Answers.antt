@@ -1,4 +1,4 @@
-use Rattle.std.proofs.Common.{◌≡◌, ◌<◌, length, vec_items, sym, arith}
+use Rattle.std.proofs.Common.{◌<◌, length, vec_items, sym, arith}
 use Rattle.deliveries.proofs.Deliveries.{none-taken, one-taken, all-taken}
 use Rattle.deliveries.proofs.receiving.take_all.Goals as goal
 use Rattle.gates.specs.Gates.{state_of}

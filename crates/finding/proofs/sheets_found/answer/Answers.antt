@@ -1,4 +1,4 @@
-use Rattle.std.proofs.Common.{◌≡◌, ℕ, refl}
+use Rattle.std.proofs.Common.{refl}
 use Rattle.finding.proofs.Answering.{nothing-wanted, line-wanted}
 use Rattle.finding.proofs.sheets_found.answer.Goals as goal
 use Rattle.finding.specs.declared.wanted.Wanted.TheVariants.{AtStart, ByLine}

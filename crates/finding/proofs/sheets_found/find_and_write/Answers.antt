@@ -1,4 +1,4 @@
-use Rattle.std.proofs.Common.{◌≡◌, ◌*◌, ◌≤◌, length, vec_items, vec_len, ◌∙◌, arith}
+use Rattle.std.proofs.Common.{◌≡◌, ◌*◌, length, ◌∙◌, arith}
 use Rattle.finding.proofs.Answering.{found-few, memory-left, all-answered, sizes, house-known}
 use Rattle.finding.proofs.sheets_found.find_and_write.Goals as goal
 use Rattle.registry.specs.Numbered.{certificatesOf}

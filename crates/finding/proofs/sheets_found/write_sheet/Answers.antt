@@ -1,4 +1,4 @@
-use Rattle.std.proofs.Common.{◌≡◌, ◌≤◌, length, sym, ap, ◌∙◌, arith}
+use Rattle.std.proofs.Common.{◌≤◌, length, sym, ◌∙◌, arith}
 use Rattle.finding.proofs.Behind.{sheet-put}
 use Rattle.finding.proofs.sheets_found.write_sheet.Goals as goal
 use Rattle.finding.specs.Asking.{requestLength}

@@ -2,7 +2,7 @@ use Rattle.finding.proofs.Answering.{same_kept}
 use Rattle.finding.proofs.sheets_found.write_wanted.Goals as goal
 use Rattle.finding.specs.Asking.{SheetWritten}
 use Rattle.registry.specs.Numbered.{certificatesOf}
-use Rattle.std.proofs.Common.{◌∙◌, subst, arith}
+use Rattle.std.proofs.Common.{subst, arith}
 
 pub returns : goal.returns
 returns c =

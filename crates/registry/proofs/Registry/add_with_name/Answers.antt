@@ -28,5 +28,5 @@ invariant_of-self c =
       agrees = so.agrees;
       numbers = so.numbers;
       fewer = omega arith;
-      space = omega arith
+      space = omega arith;
     }

@@ -19,5 +19,5 @@ invariant_of-result c =
       agrees = so.agrees;
       numbers = so.numbers;
       fewer = omega arith;
-      space = omega arith
+      space = omega arith;
     }

@@ -20,7 +20,7 @@ invariant_of-self c =
       agrees = so.agrees;
       numbers = so.numbers;
       fewer = g.fewer;
-      space = g.space
+      space = g.space;
     }
 
 pub returns : goal.returns

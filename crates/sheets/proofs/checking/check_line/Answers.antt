@@ -1,12 +1,10 @@
-use Rattle.std.proofs.Common.{◌≡◌, ℕ, List, ◌∷◌, sym, refl, ap, ◌∙◌}
+use Rattle.std.proofs.Common.{sym, ap, ◌∙◌}
 use Rattle.registry.specs.Numbered.{certificatesOf}
 use Rattle.sheets.proofs.JudgedBy.{showing, judged-by}
 use Rattle.sheets.proofs.LinePassing.{last-known, sane-fact}
 use Rattle.sheets.proofs.Remembering.{remembers-more}
 use Rattle.sheets.proofs.checking.check_line.Goals as goal
 use Rattle.sheets.specs.Checking.{followed}
-use Rattle.sheets.specs.Facts.{Fact}
-use Rattle.sheets.specs.Memory.{Remembers}
 use Rattle.sheets.specs.Sheets.{fact_of}
 use Rattle.std.proofs.lemmas.Result.{err_from_is_err_and}
 

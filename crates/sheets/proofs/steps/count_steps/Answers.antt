@@ -1,7 +1,6 @@
 use Rattle.std.proofs.Common.{◌≡◌, ◌-◌, ◌≤◌, length, take, sym, ap, ◌∙◌, arith}
 use Rattle.sheets.proofs.Stepping.{front_length}
 use Rattle.sheets.proofs.steps.count_steps.Goals as goal
-use native.Mathlib.Nat.{sub-zero}
 
 pub returns : goal.returns
 returns c =
