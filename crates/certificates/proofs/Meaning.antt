@@ -1,7 +1,7 @@
 -- The laws of the meaning, by induction on how a meaning or a right came about. Assumes nothing.
 use Rattle.std.proofs.Common.{◌≡◌, ℕ, Bool, List, [], ◌∷◌, ◌++◌, sym, refl, ap, ◌∙◌, subst, append_assoc, arith}
 use Rattle.certificates.specs.Certificates.{names_of, Valid}
-use Rattle.certificates.specs.Laws.{Grows, Steady, IssuedNothing, From-owner, From-issuer, Splits}
+use Rattle.certificates.specs.Laws.{Grows, Steady, IssuedNothing, FromOwner, FromIssuer, Splits}
 use Rattle.certificates.specs.Meaning.{Means, itself, by, Has, owns, given}
 use Rattle.certificates.specs.declared.Certificate.{Certificate}
 use mathlib.Core.List.{Memᴰ}
@@ -31,7 +31,7 @@ unfolding Carries
 steady cs day later same right owner house =
     ((λ (d, h). (d, has-carries (λ c i v. (i, (same c i).0 v)) h)), (λ (d, h). (d, has-carries (λ c i v. (i, (same c i).1 v)) h)))
 
-pub from-issuer : From-issuer
+pub from-issuer : FromIssuer
 from-issuer cs day house names m nothing itself = (refl, refl)
 from-issuer cs day house names m nothing (by c i v s q) = absurd (nothing c i refl)
 
@@ -39,7 +39,7 @@ has-from-owner : {cs : List Certificate} {day right owner : ℕ} {d : Bool} {m :
 has-from-owner nothing owns = refl
 has-from-owner nothing (given c i v g h q) = absurd (nothing c i (has-from-owner nothing h))
 
-pub from-owner : From-owner
+pub from-owner : FromOwner
 from-owner cs day right owner house nothing (d, h) = has-from-owner nothing h
 
 -- the front of a chain first, then its rest from where the front leads

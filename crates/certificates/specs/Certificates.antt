@@ -35,16 +35,16 @@ abbrev pub gives : ℕ → Certificate → Bool
 gives right c = states right c.statement
 
 -- once taken back it has the same statement, and no day is both after its first and before its last
-abbrev pub revokedOf : Certificate → Certificate
-revokedOf c = record { issuer = c.issuer; subject = c.subject; first = 1; last = 0; statement = c.statement }
+abbrev pub revoked_of : Certificate → Certificate
+revoked_of c = record { issuer = c.issuer; subject = c.subject; first = 1; last = 0; statement = c.statement }
 
-abbrev pub someRight : Statement → Bool
-someRight (Name n) = true
-someRight (Rights set delegable) = nat_lt 0 set
+abbrev pub has_some_right : Statement → Bool
+has_some_right (Name n) = true
+has_some_right (Rights set delegable) = nat_lt 0 set
 
 -- known houses, at most six names, some right
 abbrev pub in_range : Certificate → Bool
-in_range c = nat_le c.issuer 1023 && (nat_le c.subject.house 1023 && (nat_le c.subject.count 6 && someRight c.statement))
+in_range c = nat_le c.issuer 1023 && (nat_le c.subject.house 1023 && (nat_le c.subject.count 6 && has_some_right c.statement))
 
 abbrev pub Sensible : Statement → Type 0
 Sensible (Name n) = n < 2 ^ 16
@@ -52,12 +52,12 @@ Sensible (Rights set delegable) = (0 < set) × (set < 2 ^ 64)
 
 -- what every certificate that was read keeps: known houses, at most six names with zeros behind them, days of 32 bits, some right
 pub record WellFormed (c : Certificate) : Type 0 where
-  pub issuer-known : c.issuer < 1024
-  pub house-known : c.subject.house < 1024
+  pub issuer_known : c.issuer < 1024
+  pub house_known : c.subject.house < 1024
   pub first_fits : c.first < 2 ^ 32
   pub last_fits : c.last < 2 ^ 32
-  pub six-places : length c.subject.names ≡ 6
-  pub few-names : c.subject.count ≤ 6
-  pub names-fit : All (λ n. n < 2 ^ 16) (names_of c.subject)
-  pub zero-behind : drop c.subject.count c.subject.names ≡ replicate (6 - c.subject.count) 0
+  pub six_places : length c.subject.names ≡ 6
+  pub few_names : c.subject.count ≤ 6
+  pub names_fit : All (λ n. n < 2 ^ 16) (names_of c.subject)
+  pub zero_behind : drop c.subject.count c.subject.names ≡ replicate (6 - c.subject.count) 0
   pub sensible : Sensible c.statement

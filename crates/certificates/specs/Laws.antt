@@ -20,12 +20,12 @@ abbrev pub IssuedNothing : List Certificate → ℕ → Type 0
 IssuedNothing cs house = (c : Certificate) → Memᴰ c cs → c.issuer ≢ house
 
 -- An owner that issued nothing has given nothing to anybody else.
-abbrev pub From-owner : Type 0
-From-owner = (cs : List Certificate) (day right owner house : ℕ) → IssuedNothing cs owner → May cs day right owner house → house ≡ owner
+abbrev pub FromOwner : Type 0
+FromOwner = (cs : List Certificate) (day right owner house : ℕ) → IssuedNothing cs owner → May cs day right owner house → house ≡ owner
 
 -- A house that issued nothing names nobody: it means only itself, by no names.
-abbrev pub From-issuer : Type 0
-From-issuer = (cs : List Certificate) (day house : ℕ) (names : List ℕ) (m : ℕ) → IssuedNothing cs house →
+abbrev pub FromIssuer : Type 0
+FromIssuer = (cs : List Certificate) (day house : ℕ) (names : List ℕ) (m : ℕ) → IssuedNothing cs house →
     Means cs day house names m → (names ≡ []) × (m ≡ house)
 
 -- Meaning splits along a chain of names: its front means some house, and from there its rest means the last one.

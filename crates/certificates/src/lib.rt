@@ -2,7 +2,7 @@
 #![tactic(auto)]
 
 ghost use Rattle.std.specs.Prelude.{◌≡◌, ℕ, Bool, Decides};
-ghost use Rattle.certificates.specs.Certificates.{in_range, valid, Valid, gives, Gives, revokedOf};
+ghost use Rattle.certificates.specs.Certificates.{in_range, valid, Valid, gives, Gives, revoked_of};
 
 pub mod laws;
 pub mod rights;
@@ -77,7 +77,7 @@ impl Certificate {
 
     // The certificate once it is taken back: the same statement, valid on no day.
     pub fn revoked(self) -> Certificate
-        ensures value { result ≡ revokedOf self }
+        ensures value { result ≡ revoked_of self }
         ensures never { (day : ℕ) → Valid day result → ⊥ }
     {
         Certificate {

@@ -4,7 +4,7 @@ use Rattle.deliveries.specs.Lists.{bytes_of, Stopped}
 use Rattle.gates.specs.Gates.{Unanswered}
 use Rattle.gates.specs.declared.troubles.Trouble.{Trouble}
 use Rattle.promise.specs.Promise.{Bytes}
-use Rattle.promise.specs.Requests.{onto, receive, leftByDelivery, receive_all, leftByAll}
+use Rattle.promise.specs.Requests.{onto, receive, left_by_delivery, receive_all, left_by_all}
 use Rattle.promise.specs.States.{State}
 use Rattle.promise.specs.declared.answers.Answer.{Answer}
 use Rattle.std.proofs.ByRecursion.{All-push}
@@ -15,11 +15,11 @@ use Rattle.std.specs.declared.alloc.Global.{Global}
 -- the gate, its answers and the lent memory after some deliveries
 pub record Along (g : State) (memory : List ℕ) (ds : List (List ℕ)) (g' : State) (answers : List Answer) (memory' : List ℕ) : Type 0 where
   pub same : (g', answers) ≡ receive_all g ds
-  pub left : memory' ≡ leftByAll g ds memory
+  pub left : memory' ≡ left_by_all g ds memory
   pub small : All Bytes ds
 
 pub none-along : (g : State) (memory : List ℕ) (answers : List Answer) → answers ≡ [] → Along g memory [] g answers memory
-unfolding receive_all leftByAll
+unfolding receive_all left_by_all
 none-along g memory answers none = record { same = rw none; left = refl; small = tt }
 
 all-push-one : (g : State) (ds : List (List ℕ)) (d : List ℕ) → receive_all g (ds ++ (d ∷ [])) ≡ onto (receive_all g ds).1 (receive (receive_all g ds).0 d)
@@ -30,18 +30,18 @@ all-push-one g (e ∷ ds) d =
     ap (onto (receive g e).1) behind
     ∙ ap (λ (answers : List Answer). ((receive (receive_all (receive g e).0 ds).0 d).0, answers)) (sym (append_assoc (receive g e).1 _ _))
 
-left-push-one : (g : State) (ds : List (List ℕ)) (d memory : List ℕ) → leftByAll g (ds ++ (d ∷ [])) memory ≡ leftByDelivery (receive_all g ds).0 d (leftByAll g ds memory)
-unfolding receive_all leftByAll
+left-push-one : (g : State) (ds : List (List ℕ)) (d memory : List ℕ) → left_by_all g (ds ++ (d ∷ [])) memory ≡ left_by_delivery (receive_all g ds).0 d (left_by_all g ds memory)
+unfolding receive_all left_by_all
 left-push-one g [] d memory = refl
-left-push-one g (e ∷ ds) d memory = left-push-one (receive g e).0 ds d (leftByDelivery g e memory)
+left-push-one g (e ∷ ds) d memory = left-push-one (receive g e).0 ds d (left_by_delivery g e memory)
 
 module _ (g : State) (memory : List ℕ) (ds : List (List ℕ)) (g' next : State) (answers more : List Answer) (memory' after : List ℕ) where
-  pub one_along : (d : List ℕ) → Bytes d → Along g memory ds g' answers memory' → (next, more) ≡ onto answers (receive g' d) → after ≡ leftByDelivery g' d memory' →
+  pub one_along : (d : List ℕ) → Bytes d → Along g memory ds g' answers memory' → (next, more) ≡ onto answers (receive g' d) → after ≡ left_by_delivery g' d memory' →
       Along g memory (ds ++ (d ∷ [])) next more after
   one_along d small so taken left = record {
     same = taken ∙ (ap (λ (p : State × List Answer). onto p.1 (receive p.0 d)) so.same ∙ sym (all-push-one g ds d));
-    left = left ∙ (ap (λ (p : State × List Answer). leftByDelivery p.0 d memory') so.same
-        ∙ (ap (leftByDelivery (receive_all g ds).0 d) so.left ∙ sym (left-push-one g ds d memory)));
+    left = left ∙ (ap (λ (p : State × List Answer). left_by_delivery p.0 d memory') so.same
+        ∙ (ap (left_by_delivery (receive_all g ds).0 d) so.left ∙ sym (left-push-one g ds d memory)));
     small = All-push Bytes ds d so.small small;
   }
 

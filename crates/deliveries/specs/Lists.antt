@@ -2,7 +2,7 @@
 use Rattle.std.specs.Prelude.{◌≡◌, ℕ, List, ◌++◌, map, length, vec_items, Vec}
 use Rattle.gates.specs.Gates.{Unanswered}
 use Rattle.gates.specs.declared.troubles.Trouble.{Trouble}
-use Rattle.promise.specs.Requests.{leftByAll}
+use Rattle.promise.specs.Requests.{left_by_all}
 use Rattle.promise.specs.States.{State}
 use Rattle.std.specs.declared.alloc.Global.{Global}
 
@@ -16,4 +16,4 @@ pub record Stopped (trouble : Trouble) (g : State) (ds : List (List ℕ)) (memor
   pub before : List (List ℕ)
   pub behind : List (List ℕ)
   pub some : ds ≡ before ++ behind
-  pub left : memory' ≡ leftByAll g before memory
+  pub left : memory' ≡ left_by_all g before memory

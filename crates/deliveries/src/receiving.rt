@@ -3,7 +3,7 @@ ghost use Rattle.deliveries.specs.Lists.{bytes_of, Stopped};
 ghost use Rattle.gates.specs.Gates.{state_of, Unanswered};
 ghost use Rattle.gates.specs.declared.troubles.Trouble.TheVariants.{NoMemory};
 ghost use Rattle.promise.specs.Promise.{Bytes, KeptPromise, KeptAll};
-ghost use Rattle.promise.specs.Requests.{answer, leftBy, told, receive, leftByDelivery, onto, receive_all, leftByAll};
+ghost use Rattle.promise.specs.Requests.{answer, left_by, told, receive, left_by_delivery, onto, receive_all, left_by_all};
 ghost use Rattle.promise.specs.States.{deliver};
 ghost use Rattle.promise.specs.declared.answers.Answer.TheVariants.{Refused};
 ghost use Rattle.std.specs.Prelude.{◌≡◌, [], ◌∷◌, ◌++◌, map, length, IfOk, MatchResult, OnOk};
@@ -52,7 +52,7 @@ fn take_request(
     answers: &mut Vec<Answer>,
 ) -> Result<(), Trouble>
     ensures value { MatchResult result (λ _. answers.new.items ≡ answers.old.items ++ (answer (state_of gate.now) bytes.now ∷ [])) (λ t. Unanswered t (length memory.old)) }
-    ensures memory { MatchResult result (λ _. memory.new ≡ leftBy (state_of gate.now) bytes.now memory.old) (λ _. memory.new ≡ memory.old) }
+    ensures memory { MatchResult result (λ _. memory.new ≡ left_by (state_of gate.now) bytes.now memory.old) (λ _. memory.new ≡ memory.old) }
 {
     if answers.reserve(1).is_err() {
         return Err(Trouble::NoMemory);
@@ -72,7 +72,7 @@ fn take_by_kind(
     answers: &mut Vec<Answer>,
 ) -> Result<Gate, Trouble>
     ensures value { MatchResult result (λ g. (state_of g, answers.new.items) ≡ onto answers.old.items (receive (state_of gate) bytes.now)) (λ t. Unanswered t (length memory.old)) }
-    ensures memory { MatchResult result (λ _. memory.new ≡ leftByDelivery (state_of gate) bytes.now memory.old) (λ _. memory.new ≡ memory.old) }
+    ensures memory { MatchResult result (λ _. memory.new ≡ left_by_delivery (state_of gate) bytes.now memory.old) (λ _. memory.new ≡ memory.old) }
 {
     let Some(kind) = bytes.first() else {
         return Ok(gate);
@@ -92,7 +92,7 @@ fn take_delivery(
     answers: &mut Vec<Answer>,
 ) -> Result<Gate, Trouble>
     ensures value { MatchResult result (λ g. (state_of g, answers.new.items) ≡ onto answers.old.items (receive (state_of gate) bytes.now)) (λ t. Unanswered t (length memory.old)) }
-    ensures memory { MatchResult result (λ _. memory.new ≡ leftByDelivery (state_of gate) bytes.now memory.old) (λ _. memory.new ≡ memory.old) }
+    ensures memory { MatchResult result (λ _. memory.new ≡ left_by_delivery (state_of gate) bytes.now memory.old) (λ _. memory.new ≡ memory.old) }
     ensures bytes { Bytes bytes.now }
 {
     take_by_kind(gate, bytes, memory, answers)
@@ -106,7 +106,7 @@ fn receive_kept(
     memory: &mut [u64],
 ) -> Result<(Gate, Vec<Answer>), Trouble>
     ensures value { MatchResult result (λ p. (state_of p.0, p.1.items) ≡ receive (state_of gate) bytes.now) (λ t. Unanswered t (length memory.old)) }
-    ensures memory { MatchResult result (λ _. memory.new ≡ leftByDelivery (state_of gate) bytes.now memory.old) (λ _. memory.new ≡ memory.old) }
+    ensures memory { MatchResult result (λ _. memory.new ≡ left_by_delivery (state_of gate) bytes.now memory.old) (λ _. memory.new ≡ memory.old) }
     ensures promised { IfOk result (λ p. KeptPromise (state_of gate) bytes.now (state_of p.0) p.1.items) }
 {
     let mut answers = Vec::new(heap);
@@ -122,7 +122,7 @@ pub fn receive(
     memory: &mut [u64],
 ) -> Result<(Gate, Vec<Answer>), Trouble>
     ensures value { MatchResult result (λ p. (state_of p.0, p.1.items) ≡ receive (state_of gate) bytes.now) (λ t. Unanswered t (length memory.old)) }
-    ensures memory { MatchResult result (λ _. memory.new ≡ leftByDelivery (state_of gate) bytes.now memory.old) (λ _. memory.new ≡ memory.old) }
+    ensures memory { MatchResult result (λ _. memory.new ≡ left_by_delivery (state_of gate) bytes.now memory.old) (λ _. memory.new ≡ memory.old) }
     ensures promised { IfOk result (λ p. KeptPromise (state_of gate) bytes.now (state_of p.0) p.1.items) }
 {
     receive_kept(gate, heap, bytes, memory)
@@ -136,7 +136,7 @@ fn receive_each(
     memory: &mut [u64],
 ) -> Result<(Gate, Vec<Answer>), Trouble>
     ensures value { MatchResult result (λ p. (state_of p.0, p.1.items) ≡ receive_all (state_of gate) (bytes_of deliveries.now)) (λ t. Stopped t (state_of gate) (bytes_of deliveries.now) memory.old memory.new) }
-    ensures memory { OnOk result (memory.new ≡ leftByAll (state_of gate) (bytes_of deliveries.now) memory.old) }
+    ensures memory { OnOk result (memory.new ≡ left_by_all (state_of gate) (bytes_of deliveries.now) memory.old) }
     ensures promised { IfOk result (λ p. KeptAll (state_of gate) (bytes_of deliveries.now) (state_of p.0) p.1.items) }
 {
     let mut gate = gate;
@@ -155,7 +155,7 @@ pub fn receive_all(
     memory: &mut [u64],
 ) -> Result<(Gate, Vec<Answer>), Trouble>
     ensures value { MatchResult result (λ p. (state_of p.0, p.1.items) ≡ receive_all (state_of gate) (bytes_of deliveries.now)) (λ t. Stopped t (state_of gate) (bytes_of deliveries.now) memory.old memory.new) }
-    ensures memory { OnOk result (memory.new ≡ leftByAll (state_of gate) (bytes_of deliveries.now) memory.old) }
+    ensures memory { OnOk result (memory.new ≡ left_by_all (state_of gate) (bytes_of deliveries.now) memory.old) }
     ensures promised { IfOk result (λ p. KeptAll (state_of gate) (bytes_of deliveries.now) (state_of p.0) p.1.items) }
 {
     receive_each(gate, heap, deliveries, memory)

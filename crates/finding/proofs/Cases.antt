@@ -3,23 +3,23 @@ use Rattle.std.proofs.Common.{◌≡◌, ℕ, ◌<◌, List, [], ◌∷◌, leng
 use Rattle.certificates.specs.Meaning.{May}
 use Rattle.certificates.specs.declared.Certificate.{Certificate}
 use Rattle.finding.proofs.Lawful.{finds-lawfully}
-use Rattle.finding.specs.Cases.{Row, by_name, ring, ring-with-exit, doubled, had-only, not-passed-on, last-day, day-after, wrong-order, the-owner, Comes-true, All-come-true}
-use Rattle.finding.specs.Finding.{findSheet}
+use Rattle.finding.specs.Cases.{Row, by_name, ring, ring_with_exit, doubled, had_only, not_passed_on, last_day, day_after, wrong_order, the_owner, ComesTrue, AllComeTrue}
+use Rattle.finding.specs.Finding.{find_sheet}
 use Rattle.keeping.specs.Keeping.{keep}
-use Rattle.turns.specs.Resting.{stepFacts}
-use Rattle.rounds.specs.Rounds.{after, roundFrom, roundsWithin, rounds, written, shownAtEnd}
+use Rattle.turns.specs.Resting.{step_facts}
+use Rattle.rounds.specs.Rounds.{after, round_from, rounds_within, rounds, written, shown_at_end}
 use Rattle.sheets.proofs.Shown.{impossible}
 use Rattle.sheets.proofs.Sound.{sound}
-use Rattle.sheets.specs.Bytes.{sheetBytes}
-use Rattle.sheets.specs.Checking.{knownHouses, unshown, checkLines, checkSheet}
+use Rattle.sheets.specs.Bytes.{bytes_of_sheet}
+use Rattle.sheets.specs.Checking.{known_houses, unshown, lines_checked, check_sheet}
 use Rattle.sheets.specs.Facts.{shown}
 use Rattle.sheets.specs.Laws.{Covers}
-use Rattle.sheets.specs.Sheets.{walks, reached, holdsFrom}
+use Rattle.sheets.specs.Sheets.{walks, reached, holds_from}
 use Rattle.std.specs.List.{AllByRecursion as All}
 use Rattle.turns.proofs.Members.{in-rising}
 use Rattle.turns.specs.Turns.{turn}
-use Rattle.turns.specs.Ways.{rising, meantBy, ways, firstTo}
-use Rattle.wire.specs.Numbers.{bytes, takeNumbers}
+use Rattle.turns.specs.Ways.{rising, meant_by, ways, first_to}
+use Rattle.wire.specs.Numbers.{bytes, take_numbers}
 use mathlib.Core.List.Memᴰ
 use mathlib.Core.List.{Memᴰ}
 
@@ -31,7 +31,7 @@ covered houses (x ∷ cs) known c i = ⊎_elim
     (Memᴰ.cases_cons i)
 
 -- a house may exactly if a sheet is found for it
-may-decided : (cs : List Certificate) (day house : ℕ) → Covers (rising 8) cs → (o : Option _) → findSheet 8 cs day 3 1 house ≡ o → Decides (is_some o) (May cs day 3 1 house)
+may-decided : (cs : List Certificate) (day house : ℕ) → Covers (rising 8) cs → (o : Option _) → find_sheet 8 cs day 3 1 house ≡ o → Decides (is_some o) (May cs day 3 1 house)
 may-decided cs day house covers None is =
     ((λ none. impossible (cc)), λ may. absurd (((finds-lawfully 8 cs covers day 3 1).not_found house).0 is may))
 may-decided cs day house covers (Some lines) is =
@@ -41,40 +41,40 @@ module _ (r : Row) where
   row : All (λ (c : Certificate). c.subject.house < 8) r.certificates →
       length (rounds 8 r.certificates r.day 3 1) ≡ r.many →
       written 8 r.certificates r.day 3 1 ≡ r.lines →
-      meantBy 8 (shownAtEnd 8 r.certificates r.day 3 1) 1 r.name ≡ r.means →
-      findSheet 8 r.certificates r.day 3 1 r.house ≡ r.sheet →
-      (checkSheet r.certificates r.day 3 1 r.house (length r.tried) (sheetBytes r.tried)).1 ≡ r.checked → Comes-true r
+      meant_by 8 (shown_at_end 8 r.certificates r.day 3 1) 1 r.name ≡ r.means →
+      find_sheet 8 r.certificates r.day 3 1 r.house ≡ r.sheet →
+      (check_sheet r.certificates r.day 3 1 r.house (length r.tried) (bytes_of_sheet r.tried)).1 ≡ r.checked → ComesTrue r
   row known many lines means sheet check = record {
-    rounds-are = many;
+    rounds_are = many;
     lines_are = lines;
-    names-are = means;
-    sheet-is = sheet;
-    check-is = check;
-    may-is = may-decided r.certificates r.day r.house (covered 8 r.certificates known) r.sheet sheet;
+    names_are = means;
+    sheet_is = sheet;
+    check_is = check;
+    may_is = may-decided r.certificates r.day r.house (covered 8 r.certificates known) r.sheet sheet;
   }
 
-pub all-come-true : All-come-true
-unfolding after roundFrom roundsWithin turn ways firstTo rising shown reached walks keep stepFacts holdsFrom knownHouses unshown checkLines bytes takeNumbers
+pub all-come-true : AllComeTrue
+unfolding after round_from rounds_within turn ways first_to rising shown reached walks keep step_facts holds_from known_houses unshown lines_checked bytes take_numbers
 all-come-true = (
   row by_name (lit< tt, (lit< tt, tt)) refl refl refl refl refl,
   (
     row ring (lit< tt, (lit< tt, tt)) refl refl refl refl refl,
     (
-      row ring-with-exit (lit< tt, (lit< tt, (lit< tt, tt))) refl refl refl refl refl,
+      row ring_with_exit (lit< tt, (lit< tt, (lit< tt, tt))) refl refl refl refl refl,
       (
         row doubled (lit< tt, (lit< tt, (lit< tt, tt))) refl refl refl refl refl,
         (
-          row had-only (lit< tt, (lit< tt, tt)) refl refl refl refl refl,
+          row had_only (lit< tt, (lit< tt, tt)) refl refl refl refl refl,
           (
-            row not-passed-on (lit< tt, (lit< tt, tt)) refl refl refl refl refl,
+            row not_passed_on (lit< tt, (lit< tt, tt)) refl refl refl refl refl,
             (
-              row last-day (lit< tt, tt) refl refl refl refl refl,
+              row last_day (lit< tt, tt) refl refl refl refl refl,
               (
-                row day-after (lit< tt, tt) refl refl refl refl refl,
+                row day_after (lit< tt, tt) refl refl refl refl refl,
                 (
-                  row wrong-order (lit< tt, (lit< tt, tt)) refl refl refl refl refl,
+                  row wrong_order (lit< tt, (lit< tt, tt)) refl refl refl refl refl,
                   (
-                    row the-owner tt refl refl refl refl refl,
+                    row the_owner tt refl refl refl refl refl,
                     tt,
                   ),
                 ),

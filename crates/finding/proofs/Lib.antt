@@ -5,3 +5,6 @@ pub mod Behind
 pub mod Answering
 pub mod Worthy
 pub mod Opening
+pub mod Deciding
+pub mod Grown
+pub mod Sheeted

@@ -2,15 +2,15 @@
 use Rattle.std.proofs.Common.{◌≡◌, ℕ, ◌≤◌, Bool, true, false, cond, eqb, List, [], ◌∷◌, ◌++◌, length, get_or, take, drop, Some, None, Ok, Err, Result, sym, refl, ap, ◌∙◌, ap₂, append_assoc, arith}
 use Rattle.certificates.specs.declared.Certificate.{Certificate}
 use Rattle.finding.proofs.Worthy.{lines-open}
-use Rattle.finding.specs.Asking.{requestLength, withSheet, head_of, Answered}
-use Rattle.finding.specs.Worth.{gateOf, WrittenOpens}
+use Rattle.finding.specs.Asking.{request_length, with_sheet, head_of, Answered}
+use Rattle.finding.specs.Worth.{gate_of, WrittenOpens}
 use Rattle.finding.specs.declared.sheets_found.Unfound.{Unfound}
 use Rattle.promise.proofs.HeadRead.{head-written}
-use Rattle.promise.specs.Promise.{Bytes, requestBytes}
-use Rattle.promise.specs.Requests.{takeHead, receive}
+use Rattle.promise.specs.Promise.{Bytes, request_bytes}
+use Rattle.promise.specs.Requests.{take_head, receive}
 use Rattle.promise.specs.declared.heads.Head.{Head}
 use Rattle.sheets.proofs.Shown.{impossible}
-use Rattle.sheets.specs.Bytes.{sheetBytes}
+use Rattle.sheets.specs.Bytes.{bytes_of_sheet}
 use Rattle.sheets.specs.Laws.{Covers}
 use Rattle.sheets.specs.Sheets.{Line}
 use Rattle.sheets.specs.declared.checking.Question.{Question}
@@ -26,16 +26,16 @@ tested true x y is = (refl, is)
 tested false x y is = impossible (cc)
 
 -- the first four bytes of a request
-abbrev front : Head → List ℕ
+abbrev pub front : Head → List ℕ
 front h = 4 ∷ (bytes 2 h.house ++ (h.right ∷ []))
 
 front_long : (h : Head) → length (front h) ≡ 4
 front_long h = omega (arith, length-append (bytes 2 h.house) (h.right ∷ []), length-bytes 2 h.house)
 
-front_read : (request : List ℕ) → Bytes request → (h : Head) (rest : List ℕ) → head_of request ≡ Some (h, rest) → take 4 request ≡ front h
+pub front_read : (request : List ℕ) → Bytes request → (h : Head) (rest : List ℕ) → head_of request ≡ Some (h, rest) → take 4 request ≡ front h
 front_read [] small h rest is = impossible (cc)
 front_read (b ∷ s) small h rest is =
-    let (four, read) = tested (eqb b 4) (takeHead (b ∷ s)) (h, rest) is in
+    let (four, read) = tested (eqb b 4) (take_head (b ∷ s)) (h, rest) is in
     let (kind, w) = head-written (b ∷ s) small h rest read in
     let kind-is : b ≡ kind = ap (λ xs. get_or xs 0 0) w in
     let behind = bytes 4 h.lines ++ rest in
@@ -45,17 +45,17 @@ front_read (b ∷ s) small h rest is =
 
 -- what was written is the request with its sheet
 written-request : (request : List ℕ) → Bytes request → (h : Head) (rest : List ℕ) → head_of request ≡ Some (h, rest) → (lines : List Line) →
-    take (requestLength lines) (withSheet request lines) ≡ requestBytes h.house h.right lines
+    take (request_length lines) (with_sheet request lines) ≡ request_bytes h.house h.right lines
 written-request request small h rest is lines =
-    let sheet = sheetBytes lines in
+    let sheet = bytes_of_sheet lines in
     let count = bytes 4 (length lines) in
-    let behind = drop (requestLength lines) request in
-    let long : length (front h ++ (count ++ sheet)) ≡ requestLength lines =
+    let behind = drop (request_length lines) request in
+    let long : length (front h ++ (count ++ sheet)) ≡ request_length lines =
     omega (arith, length-append (front h) (count ++ sheet), length-append count sheet, front_long h, length-bytes 4 (length lines)) in
-    ap (λ xs. take (requestLength lines) (xs ++ (count ++ (sheet ++ behind)))) (front_read request small h rest is)
-    ∙ (ap (λ xs. take (requestLength lines) (front h ++ xs)) (sym (append_assoc count sheet behind))
-    ∙ (ap (take (requestLength lines)) (sym (append_assoc (front h) (count ++ sheet) behind))
-    ∙ (take_at (front h ++ (count ++ sheet)) behind (requestLength lines) long
+    ap (λ xs. take (request_length lines) (xs ++ (count ++ (sheet ++ behind)))) (front_read request small h rest is)
+    ∙ (ap (λ xs. take (request_length lines) (front h ++ xs)) (sym (append_assoc count sheet behind))
+    ∙ (ap (take (request_length lines)) (sym (append_assoc (front h) (count ++ sheet) behind))
+    ∙ (take_at (front h ++ (count ++ sheet)) behind (request_length lines) long
     ∙ ap (λ t. 4 ∷ t) (append_assoc (bytes 2 h.house) (h.right ∷ []) (count ++ sheet)))))
 
 module _ (cs : List Certificate) (q : Question) (covers : Covers (rising 1024) cs) (few : length cs ≤ 1024) where
@@ -64,6 +64,6 @@ module _ (cs : List Certificate) (q : Question) (covers : Covers (rising 1024) c
   written-opens names numbers request names' numbers' request' (Err unfound) answered small h rest is house right = tt
   written-opens names numbers request names' numbers' request' (Ok long) (asked, wrote, filled) small h rest is house right = λ well.
       let lines = wrote.lines in
-      let bytes-are : take long request' ≡ requestBytes q.house q.right lines =
-      ap₂ take wrote.long-is wrote.request-is ∙ (written-request request small h rest is lines ∙ ap₂ (λ a b. requestBytes a b lines) house right) in
-      ap (λ xs. (receive (gateOf cs q) xs).1) bytes-are ∙ lines-open cs q covers few asked lines wrote.found well
+      let bytes-are : take long request' ≡ request_bytes q.house q.right lines =
+      ap₂ take wrote.long_is wrote.request_is ∙ (written-request request small h rest is lines ∙ ap₂ (λ a b. request_bytes a b lines) house right) in
+      ap (λ xs. (receive (gate_of cs q) xs).1) bytes-are ∙ lines-open cs q covers few asked lines wrote.found well

@@ -3,13 +3,13 @@ use Rattle.std.proofs.Common.{◌≡◌, ℕ, ◌≤◌, true, ◌&&◌, leb, Li
 use Rattle.certificates.specs.Certificates.{WellFormed}
 use Rattle.certificates.specs.declared.Certificate.{Certificate}
 use Rattle.finding.proofs.Lawful.{finds-lawfully}
-use Rattle.finding.specs.Asking.{sheetFor, Answered}
+use Rattle.finding.specs.Asking.{sheet_for, Answered}
 use Rattle.finding.specs.Laws.{Kept}
-use Rattle.finding.specs.Worth.{Allowed, gateOf, Opens, Worth}
+use Rattle.finding.specs.Worth.{Allowed, gate_of, Opens, Worth}
 use Rattle.finding.specs.declared.sheets_found.Unfound.{Unfound}
 use Rattle.finding.specs.declared.sheets_found.Unfound.TheVariants.{NoSheet, TooShort, Malformed, OutOfRange, NoMemory, WrongSize}
 use Rattle.promise.proofs.Asking.{lets-in}
-use Rattle.promise.specs.Promise.{requestBytes}
+use Rattle.promise.specs.Promise.{request_bytes}
 use Rattle.promise.specs.Requests.{receive}
 use Rattle.promise.specs.declared.answers.Answer.TheVariants.{Open}
 use Rattle.sheets.proofs.Sound.{sound}
@@ -22,20 +22,20 @@ use Rattle.std.specs.List.{AllByRecursion as All}
 use Rattle.turns.specs.Ways.{rising}
 
 module _ (cs : List Certificate) (q : Question) (covers : Covers (rising 1024) cs) (few : length cs ≤ 1024) where
-  kept-lines : (lines : List Line) → sheetFor cs q ≡ Some lines → Kept 1024 cs q.day q.right q.owner q.house lines
+  kept-lines : (lines : List Line) → sheet_for cs q ≡ Some lines → Kept 1024 cs q.day q.right q.owner q.house lines
   kept-lines lines is = (finds-lawfully 1024 cs covers q.day q.right q.owner).kept q.house lines is
 
-  found-allowed : (lines : List Line) → sheetFor cs q ≡ Some lines → Allowed cs q
+  pub found-allowed : (lines : List Line) → sheet_for cs q ≡ Some lines → Allowed cs q
   found-allowed lines is = sound cs q.day q.right q.owner q.house lines (kept-lines lines is).hold
 
-  pub lines-open : askable q ≡ true → (lines : List Line) → sheetFor cs q ≡ Some lines → All WellFormed cs → (receive (gateOf cs q) (requestBytes q.house q.right lines)).1 ≡ Open ∷ []
+  pub lines-open : askable q ≡ true → (lines : List Line) → sheet_for cs q ≡ Some lines → All WellFormed cs → (receive (gate_of cs q) (request_bytes q.house q.right lines)).1 ≡ Open ∷ []
   lines-open asked lines is well =
       let (owner, rest) = and_parts (leb q.owner 1023) (leb q.house 1023 && leb q.right 63) asked in
       let (house, right) = and_parts (leb q.house 1023) (leb q.right 63) rest in
       let k = kept-lines lines is in
-      lets-in (gateOf cs q) few q.house q.right well (omega (arith, leb-true q.house 1023 house)) (omega (arith, leb-true q.right 63 right)) lines (record { held = k.hold; short = k.few })
+      lets-in (gate_of cs q) few q.house q.right well (omega (arith, leb-true q.house 1023 house)) (omega (arith, leb-true q.right 63 right)) lines (record { held = k.hold; short = k.few })
 
-  found-opens : askable q ≡ true → (lines : List Line) → sheetFor cs q ≡ Some lines → Opens cs q
+  found-opens : askable q ≡ true → (lines : List Line) → sheet_for cs q ≡ Some lines → Opens cs q
   found-opens asked lines is = record { lines = lines; found = is; opens = lines-open asked lines is }
 
   pub worthy : (names numbers request names' numbers' request' : List ℕ) (r : Result ℕ Unfound) → Answered cs q names numbers request names' numbers' request' r → Worth cs q r

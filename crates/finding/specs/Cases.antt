@@ -4,13 +4,13 @@ use Rattle.certificates.specs.Meaning.{May}
 use Rattle.certificates.specs.declared.Certificate.{Certificate}
 use Rattle.certificates.specs.declared.Statement.{Statement}
 use Rattle.certificates.specs.declared.Statement.TheVariants.{Name, Rights}
-use Rattle.finding.specs.Finding.{findSheet}
-use Rattle.rounds.specs.Rounds.{rounds, written, shownAtEnd}
-use Rattle.sheets.specs.Bytes.{sheetBytes}
-use Rattle.sheets.specs.Checking.{checkSheet}
+use Rattle.finding.specs.Finding.{find_sheet}
+use Rattle.rounds.specs.Rounds.{rounds, written, shown_at_end}
+use Rattle.sheets.specs.Bytes.{bytes_of_sheet}
+use Rattle.sheets.specs.Checking.{check_sheet}
 use Rattle.sheets.specs.Sheets.{Line}
 use Rattle.std.specs.List.{AllByRecursion as All}
-use Rattle.turns.specs.Ways.{meantBy}
+use Rattle.turns.specs.Ways.{meant_by}
 use Rattle.wire.specs.Numbers.{places}
 use Rattle.wire.specs.declared.faults.Fault.{Fault}
 use Rattle.wire.specs.declared.faults.Fault.TheVariants.{NotValid, IssuerNotShown, StepNotShown, HouseNotShown}
@@ -79,8 +79,8 @@ ring = record {
 }
 
 -- with a way out of the ring both names mean the house there: two lines in all
-abbrev pub ring-with-exit : Row
-ring-with-exit = record {
+abbrev pub ring_with_exit : Row
+ring_with_exit = record {
   certificates = names 1 5 2 (5 ∷ []) ∷ (names 2 5 1 (5 ∷ []) ∷ (names 2 5 4 [] ∷ []));
   day = 0;
   house = 4;
@@ -112,8 +112,8 @@ doubled = record {
 abbrev given : List Certificate
 given = gives false 1 99 2 [] ∷ (gives true 2 99 4 [] ∷ [])
 
-abbrev pub had-only : Row
-had-only = record {
+abbrev pub had_only : Row
+had_only = record {
   certificates = given;
   day = 0;
   house = 2;
@@ -126,8 +126,8 @@ had-only = record {
   checked = Ok tt;
 }
 
-abbrev pub not-passed-on : Row
-not-passed-on = record {
+abbrev pub not_passed_on : Row
+not_passed_on = record {
   certificates = given;
   day = 0;
   house = 4;
@@ -141,8 +141,8 @@ not-passed-on = record {
 }
 
 -- valid to day 9: on that day yes, on the next no
-abbrev pub last-day : Row
-last-day = record {
+abbrev pub last_day : Row
+last_day = record {
   certificates = gives false 1 9 2 [] ∷ [];
   day = 9;
   house = 2;
@@ -155,8 +155,8 @@ last-day = record {
   checked = Ok tt;
 }
 
-abbrev pub day-after : Row
-day-after = record {
+abbrev pub day_after : Row
+day_after = record {
   certificates = gives false 1 9 2 [] ∷ [];
   day = 10;
   house = 2;
@@ -170,8 +170,8 @@ day-after = record {
 }
 
 -- a sheet whose first line has a step that only its second shows
-abbrev pub wrong-order : Row
-wrong-order = record {
+abbrev pub wrong_order : Row
+wrong_order = record {
   certificates = names 1 5 2 [] ∷ (gives false 1 99 1 (5 ∷ []) ∷ []);
   day = 0;
   house = 2;
@@ -185,8 +185,8 @@ wrong-order = record {
 }
 
 -- the owner may, with an empty sheet
-abbrev pub the-owner : Row
-the-owner = record {
+abbrev pub the_owner : Row
+the_owner = record {
   certificates = [];
   day = 0;
   house = 1;
@@ -200,16 +200,16 @@ the-owner = record {
 }
 
 abbrev pub table : List Row
-table = by_name ∷ (ring ∷ (ring-with-exit ∷ (doubled ∷ (had-only ∷ (not-passed-on ∷ (last-day ∷ (day-after ∷ (wrong-order ∷ (the-owner ∷ [])))))))))
+table = by_name ∷ (ring ∷ (ring_with_exit ∷ (doubled ∷ (had_only ∷ (not_passed_on ∷ (last_day ∷ (day_after ∷ (wrong_order ∷ (the_owner ∷ [])))))))))
 
 -- the row is what the definitions give, with eight houses
-pub record Comes-true (r : Row) : Type 0 where
-  pub rounds-are : length (rounds 8 r.certificates r.day 3 1) ≡ r.many
+pub record ComesTrue (r : Row) : Type 0 where
+  pub rounds_are : length (rounds 8 r.certificates r.day 3 1) ≡ r.many
   pub lines_are : written 8 r.certificates r.day 3 1 ≡ r.lines
-  pub names-are : meantBy 8 (shownAtEnd 8 r.certificates r.day 3 1) 1 r.name ≡ r.means
-  pub sheet-is : findSheet 8 r.certificates r.day 3 1 r.house ≡ r.sheet
-  pub may-is : Decides (is_some r.sheet) (May r.certificates r.day 3 1 r.house)
-  pub check-is : (checkSheet r.certificates r.day 3 1 r.house (length r.tried) (sheetBytes r.tried)).1 ≡ r.checked
+  pub names_are : meant_by 8 (shown_at_end 8 r.certificates r.day 3 1) 1 r.name ≡ r.means
+  pub sheet_is : find_sheet 8 r.certificates r.day 3 1 r.house ≡ r.sheet
+  pub may_is : Decides (is_some r.sheet) (May r.certificates r.day 3 1 r.house)
+  pub check_is : (check_sheet r.certificates r.day 3 1 r.house (length r.tried) (bytes_of_sheet r.tried)).1 ≡ r.checked
 
-abbrev pub All-come-true : Type 0
-All-come-true = All Comes-true table
+abbrev pub AllComeTrue : Type 0
+AllComeTrue = All ComesTrue table

@@ -4,3 +4,4 @@ pub mod Cases
 pub mod Wanted
 pub mod Asking
 pub mod Worth
+pub mod Growing

@@ -3,10 +3,10 @@ use Rattle.std.specs.Prelude.{◌≡◌, ℕ, List, [], ◌∷◌, take, Some, N
 use Rattle.certificates.specs.Certificates.{WellFormed}
 use Rattle.certificates.specs.Meaning.{May}
 use Rattle.certificates.specs.declared.Certificate.{Certificate}
-use Rattle.finding.specs.Asking.{questionOf, sheetFor}
+use Rattle.finding.specs.Asking.{question_of, sheet_for}
 use Rattle.finding.specs.declared.sheets_found.Unfound.{Unfound}
 use Rattle.finding.specs.declared.sheets_found.Unfound.TheVariants.{NoSheet, TooShort, Malformed, OutOfRange, NoMemory, WrongSize}
-use Rattle.promise.specs.Promise.{requestBytes}
+use Rattle.promise.specs.Promise.{request_bytes}
 use Rattle.promise.specs.Requests.{receive}
 use Rattle.promise.specs.declared.heads.Head.{Head}
 use Rattle.promise.specs.States.{State}
@@ -19,13 +19,13 @@ use Rattle.wire.specs.declared.faults.Fault.{Fault}
 use Rattle.wire.specs.declared.faults.Fault.TheVariants as faults
 
 -- the fault that an answer is told by; want of memory and the caller's own mistakes are none
-abbrev pub faultOf : Unfound → Option Fault
-faultOf NoSheet = Some faults.NoSheet
-faultOf Malformed = Some faults.Malformed
-faultOf OutOfRange = Some faults.OutOfRange
-faultOf (TooShort needed) = None
-faultOf NoMemory = None
-faultOf WrongSize = None
+abbrev pub fault_of : Unfound → Option Fault
+fault_of NoSheet = Some faults.NoSheet
+fault_of Malformed = Some faults.Malformed
+fault_of OutOfRange = Some faults.OutOfRange
+fault_of (TooShort needed) = None
+fault_of NoMemory = None
+fault_of WrongSize = None
 
 module _ (cs : List Certificate) (q : Question) where
   -- the house may
@@ -33,18 +33,18 @@ module _ (cs : List Certificate) (q : Question) where
   Allowed = May cs q.day q.right q.owner q.house
 
   -- the owner's gate on that day with these certificates, if they were read from bytes
-  abbrev pub gateOf : State
-  gateOf = record { owner = q.owner; day = q.day; certificates = cs }
+  abbrev pub gate_of : State
+  gate_of = record { owner = q.owner; day = q.day; certificates = cs }
 
   -- the request with the sheet opens that gate
   pub record Opens : Type 0 where
     pub lines : List Line
-    pub found : sheetFor cs q ≡ Some lines
-    pub opens : All WellFormed cs → (receive gateOf (requestBytes q.house q.right lines)).1 ≡ Open ∷ []
+    pub found : sheet_for cs q ≡ Some lines
+    pub opens : All WellFormed cs → (receive gate_of (request_bytes q.house q.right lines)).1 ≡ Open ∷ []
 
   -- what was written of the request opens that gate, and nothing behind it is needed
   abbrev pub WrittenOpens : List ℕ → Result ℕ Unfound → Type 0
-  WrittenOpens request' (Ok long) = All WellFormed cs → (receive gateOf (take long request')).1 ≡ Open ∷ []
+  WrittenOpens request' (Ok long) = All WellFormed cs → (receive gate_of (take long request')).1 ≡ Open ∷ []
   WrittenOpens request' (Err unfound) = Unit {0}
 
   -- A sheet is written only for a house that may, and opens the gate; without one the house may not.
@@ -60,4 +60,4 @@ module _ (cs : List Certificate) (q : Question) where
 -- For a request with a head: its answer is worth this for what the head asks, and what was written opens.
 abbrev pub RequestWorth : List Certificate → ℕ → ℕ → List ℕ → Result ℕ Unfound → Taken Head → Type 0
 RequestWorth cs day owner request' r None = Unit {0}
-RequestWorth cs day owner request' r (Some p) = Worth cs (questionOf day owner p.0) r × WrittenOpens cs (questionOf day owner p.0) request' r
+RequestWorth cs day owner request' r (Some p) = Worth cs (question_of day owner p.0) r × WrittenOpens cs (question_of day owner p.0) request' r

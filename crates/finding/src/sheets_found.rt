@@ -1,21 +1,22 @@
 // A sheet is found for a question, and written into the free end of a request.
 ghost use Rattle.std.specs.Prelude.{◌≡◌, ℕ, ◌<◌, ◌≤◌, List, ◌++◌, length, take, drop, replicate, Some, vec_len};
-ghost use Rattle.finding.specs.Asking.{SheetWritten, keptBy, toldOf, RequestAnswered, Answered, head_of, HeadAnswered};
-ghost use Rattle.finding.specs.Worth.{Worth, WrittenOpens, RequestWorth, faultOf};
+ghost use Rattle.finding.specs.Asking.{SheetWritten, kept_by, told_of, RequestAnswered, Answered, head_of, HeadAnswered};
+ghost use Rattle.finding.specs.Worth.{Worth, WrittenOpens, RequestWorth, fault_of};
 ghost use Rattle.promise.specs.Promise.{Bytes};
 ghost use Rattle.promise.specs.declared.heads.Head.{Head as Head·logic};
 ghost use Rattle.keeping.specs.Marks.{picked};
-ghost use Rattle.registry.specs.Numbered.{certificatesOf};
+ghost use Rattle.registry.specs.Numbered.{certificates_of};
 ghost use Rattle.sheets.specs.Sheets.{Line};
-ghost use Rattle.turns.specs.Found.{linesFound};
+ghost use Rattle.turns.specs.Found.{lines_found};
 ghost use Rattle.round_lines.specs.Running.{AllFound};
 ghost use Rattle.wire.specs.Numbers.{bytes, split};
 
+use crate::searching::search;
 use crate::wanted::{Wanted, wanted_line};
 use keeping::marking::mark_needed;
 use promise::heads::{Head, REQUEST, read_head};
 use registry::Registry;
-use round_lines::lines::{Lines, Trouble, find_lines};
+use round_lines::lines::Lines;
 use sheet_bytes::{TooShort, marked_bytes, marked_lines, write_marked};
 use sheets::checking::Question;
 use std::alloc::Global;
@@ -67,7 +68,7 @@ fn write_sheet(
 ) -> Result<usize, TooShort>
     requires few { length marks.now ≤ 1048576 }
     requires many { length marks.now ≡ length found.now }
-    ensures { SheetWritten (picked marks.now (linesFound (certificatesOf registry.now) found.now)) request.old request.new result }
+    ensures { SheetWritten (picked marks.now (lines_found (certificates_of registry.now) found.now)) request.old request.new result }
 {
     let needed = HEAD + marked_bytes(registry, found, marks);
     if request.len() < needed {
@@ -90,7 +91,7 @@ fn write_wanted(
 ) -> Result<usize, TooShort>
     requires room { vec_len lines.now.found ≤ length marks.old }
     requires few { length marks.old ≤ 1048576 }
-    ensures { SheetWritten (keptBy (certificatesOf registry.now) owner (linesFound (certificatesOf registry.now) lines.now.found.items) wanted name_lines.now lines.now.right_lines.items) request.old request.new result }
+    ensures { SheetWritten (kept_by (certificates_of registry.now) owner (lines_found (certificates_of registry.now) lines.now.found.items) wanted name_lines.now lines.now.right_lines.items) request.old request.new result }
 {
     let found = lines.found.as_slice();
     let marks = &mut marks[0..found.len()];
@@ -108,7 +109,7 @@ fn write_wanted(
 
 // The answer of finding, where lines were looked for.
 fn told(written: Result<usize, TooShort>) -> Result<usize, Unfound>
-    ensures { result ≡ toldOf written }
+    ensures { result ≡ told_of written }
 {
     match written {
         Ok(long) => Ok(long),
@@ -119,7 +120,7 @@ fn told(written: Result<usize, TooShort>) -> Result<usize, Unfound>
 }
 
 // Writes the sheet, where the house is shown to have the right.
-fn answer(
+pub(crate) fn answer(
     registry: &Registry,
     question: &Question,
     lines: &Lines,
@@ -129,7 +130,7 @@ fn answer(
 ) -> Result<usize, Unfound>
     requires room { vec_len lines.now.found ≤ length marks.old }
     requires few { length marks.old ≤ 1048576 }
-    ensures { (names before : List ℕ) → length before ≡ 1048576 → AllFound (certificatesOf registry.now) question.now before (replicate 2048 0) lines.now.found.items names lines.now.rights name_lines.now lines.now.right_lines.items → question.now.house < 1024 → RequestAnswered (certificatesOf registry.now) question.now request.old request.new result }
+    ensures { (names before : List ℕ) → length before ≡ 1048576 → AllFound (certificates_of registry.now) question.now before (replicate 2048 0) lines.now.found.items names lines.now.rights name_lines.now lines.now.right_lines.items → question.now.house < 1024 → RequestAnswered (certificates_of registry.now) question.now request.old request.new result }
 {
     let owner = question.owner;
     match wanted_line(question, &lines.rights, lines.right_lines.as_slice()) {
@@ -150,7 +151,6 @@ fn answer(
 }
 
 // Finds all lines, and writes those that are kept.
-// Room is reserved first, so want of memory is known before anything lent is touched.
 fn find_and_write(
     heap: Global,
     registry: &Registry,
@@ -159,24 +159,17 @@ fn find_and_write(
     name_lines: &mut [u32],
     request: &mut [u8],
 ) -> Result<usize, Unfound>
-    ensures { Answered (certificatesOf registry.now) question.now names.old name_lines.old request.old names.new name_lines.new request.new result }
+    ensures { Answered (certificates_of registry.now) question.now names.old name_lines.old request.old names.new name_lines.new request.new result }
 {
-    let Ok(mut marks) = vec![in heap; false; registry.len() * 1024] else {
-        return Err(Unfound::NoMemory);
-    };
-    match find_lines(heap, registry, question, names, name_lines) {
-        Ok(lines) => answer(
-            registry,
-            question,
-            &lines,
-            name_lines,
-            marks.as_mut_slice(),
-            request,
-        ),
-        Err(Trouble::NoMemory) => Err(Unfound::NoMemory),
-        Err(Trouble::WrongSize) => Err(Unfound::WrongSize),
-        Err(Trouble::OutOfRange) => Err(Unfound::OutOfRange),
-    }
+    let mut found = search(heap, registry, question, names, name_lines)?;
+    answer(
+        registry,
+        question,
+        &found.lines,
+        name_lines,
+        found.marks.as_mut_slice(),
+        request,
+    )
 }
 
 // Finds the sheet for a question, and writes it behind the head of the request, with how many lines it has: how long the request is then.
@@ -188,15 +181,15 @@ pub fn find(
     name_lines: &mut [u32],
     request: &mut [u8],
 ) -> Result<usize, Unfound>
-    ensures answered { Answered (certificatesOf registry.now) question.now names.old name_lines.old request.old names.new name_lines.new request.new result }
-    ensures worth { Worth (certificatesOf registry.now) question.now result }
-    ensures opens { Bytes request.old → (h : Head·logic) (rest : List ℕ) → head_of request.old ≡ Some (h, rest) → h.house ≡ question.now.house → h.right ≡ question.now.right → WrittenOpens (certificatesOf registry.now) question.now request.new result }
+    ensures answered { Answered (certificates_of registry.now) question.now names.old name_lines.old request.old names.new name_lines.new request.new result }
+    ensures worth { Worth (certificates_of registry.now) question.now result }
+    ensures opens { Bytes request.old → (h : Head·logic) (rest : List ℕ) → head_of request.old ≡ Some (h, rest) → h.house ≡ question.now.house → h.right ≡ question.now.right → WrittenOpens (certificates_of registry.now) question.now request.new result }
 {
     find_and_write(heap, registry, question, names, name_lines, request)
 }
 
 // The head of a request; none where it is no request, or its head is cut.
-fn asked(request: &[u8]) -> Option<(Head, &[u8])>
+pub(crate) fn asked(request: &[u8]) -> Option<(Head, &[u8])>
     ensures value { split result ≡ head_of request.now }
     ensures small { Bytes request.now }
 {
@@ -219,8 +212,8 @@ pub fn find_request(
     name_lines: &mut [u32],
     request: &mut [u8],
 ) -> Result<usize, Unfound>
-    ensures answered { HeadAnswered (certificatesOf registry.now) day owner names.old name_lines.old request.old names.new name_lines.new request.new result (head_of request.old) }
-    ensures worth { RequestWorth (certificatesOf registry.now) day owner request.new result (head_of request.old) }
+    ensures answered { HeadAnswered (certificates_of registry.now) day owner names.old name_lines.old request.old names.new name_lines.new request.new result (head_of request.old) }
+    ensures worth { RequestWorth (certificates_of registry.now) day owner request.new result (head_of request.old) }
 {
     let Some((head, _)) = asked(request) else {
         return Err(Unfound::Malformed);
@@ -237,7 +230,7 @@ pub fn find_request(
 impl Unfound {
     // The fault that this is told by, with its number; want of memory and the caller's own mistakes are none.
     pub fn fault(self) -> Option<Fault>
-        ensures { result ≡ faultOf self }
+        ensures { result ≡ fault_of self }
     {
         match self {
             Unfound::NoSheet => Some(Fault::NoSheet),

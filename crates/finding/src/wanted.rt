@@ -1,5 +1,5 @@
 // Which line shows that a house has the right.
-ghost use Rattle.finding.specs.Wanted.{wantedIn};
+ghost use Rattle.finding.specs.Wanted.{wanted_in};
 ghost use Rattle.std.specs.Prelude.{◌≡◌};
 
 use facts::is_shown;
@@ -23,7 +23,7 @@ pub enum Wanted {
 
 // That the house may pass the right on is wanted, if it is shown; else that it has it only.
 pub(crate) fn wanted_line(question: &Question, rights: &[u64], right_lines: &[u32]) -> Wanted
-    ensures { result ≡ wantedIn question.now rights.now right_lines.now }
+    ensures { result ≡ wanted_in question.now rights.now right_lines.now }
 {
     let house = question.house;
     if is_shown(rights, DELEGATORS, house) {

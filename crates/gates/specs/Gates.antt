@@ -4,10 +4,10 @@ use Rattle.gates.specs.declared.Gate.{Gate}
 use Rattle.gates.specs.declared.troubles.Trouble.{Trouble}
 use Rattle.gates.specs.declared.troubles.Trouble.TheVariants.{UnknownHouse, NoMemory, ShortMemory}
 use Rattle.promise.specs.States.{State}
-use Rattle.registry.specs.Numbered.{certificatesOf}
+use Rattle.registry.specs.Numbered.{certificates_of}
 
 abbrev pub state_of : Gate → State
-state_of g = record { owner = g.owner; day = g.day; certificates = certificatesOf g.registry }
+state_of g = record { owner = g.owner; day = g.day; certificates = certificates_of g.registry }
 
 -- a gate that there is gives no answer only where memory can't be had, or where the lent memory has too few words
 abbrev pub Unanswered : Trouble → ℕ → Type 0

@@ -5,6 +5,7 @@ ghost use Rattle.std.specs.Prelude.{◌≤◌};
 
 use registry::Registry;
 
+pub mod reading;
 pub mod requests;
 pub mod taking;
 pub mod troubles;

@@ -2,7 +2,7 @@
 ghost use Rattle.std.specs.Prelude.{◌≡◌, ◌<◌, ◌≤◌, length, IfOk, Some, MatchResult};
 ghost use Rattle.gates.specs.Gates.{state_of};
 ghost use Rattle.promise.specs.Promise.{KeptAnswer};
-ghost use Rattle.promise.specs.Requests.{answer, answerHead, AnsweredByFront, leftBy, leftByHead};
+ghost use Rattle.promise.specs.Requests.{answer, answer_head, AnsweredByFront, left_by, left_by_head};
 
 use crate::Gate;
 use certificates::LAST_HOUSE;
@@ -18,8 +18,8 @@ pub const LONGEST_REQUEST: usize = 8 + 1024 * 1024 * 14;
 impl Gate {
     // Looks at the head, and then at the lines.
     fn ask(&self, head: Head, lines: &[u8], memory: &mut [u64]) -> Result<Answer, ShortMemory>
-        ensures value { MatchResult result (λ a. a ≡ answerHead (state_of self.now) (Some (head, lines.now))) (λ _. length memory.old < 16384) }
-        ensures memory { MatchResult result (λ _. memory.new ≡ leftByHead (state_of self.now) memory.old (Some (head, lines.now))) (λ _. memory.new ≡ memory.old) }
+        ensures value { MatchResult result (λ a. a ≡ answer_head (state_of self.now) (Some (head, lines.now))) (λ _. length memory.old < 16384) }
+        ensures memory { MatchResult result (λ _. memory.new ≡ left_by_head (state_of self.now) memory.old (Some (head, lines.now))) (λ _. memory.new ≡ memory.old) }
     {
         if head.house > LAST_HOUSE || head.right > LAST_RIGHT {
             return Ok(Answer::Refused(Fault::OutOfRange));
@@ -42,7 +42,7 @@ impl Gate {
     // Reads the head and looks at it, and then at the lines.
     fn read_and_ask(&self, bytes: &[u8], memory: &mut [u64]) -> Result<Answer, ShortMemory>
         ensures value { MatchResult result (λ a. a ≡ answer (state_of self.now) bytes.now) (λ _. length memory.old < 16384) }
-        ensures memory { MatchResult result (λ _. memory.new ≡ leftBy (state_of self.now) bytes.now memory.old) (λ _. memory.new ≡ memory.old) }
+        ensures memory { MatchResult result (λ _. memory.new ≡ left_by (state_of self.now) bytes.now memory.old) (λ _. memory.new ≡ memory.old) }
     {
         let Some((head, lines)) = read_head(bytes) else {
             return Ok(Answer::Refused(Fault::Malformed));
@@ -53,7 +53,7 @@ impl Gate {
     // What is promised of an answer follows from which answer it is.
     fn answer_kept(&self, bytes: &[u8], memory: &mut [u64]) -> Result<Answer, ShortMemory>
         ensures value { MatchResult result (λ a. a ≡ answer (state_of self.now) bytes.now) (λ _. length memory.old < 16384) }
-        ensures memory { MatchResult result (λ _. memory.new ≡ leftBy (state_of self.now) bytes.now memory.old) (λ _. memory.new ≡ memory.old) }
+        ensures memory { MatchResult result (λ _. memory.new ≡ left_by (state_of self.now) bytes.now memory.old) (λ _. memory.new ≡ memory.old) }
         ensures front { IfOk result (λ a. AnsweredByFront (state_of self.now) bytes.now a) }
         ensures promised { IfOk result (λ a. KeptAnswer (state_of self.now) bytes.now a) }
     {
@@ -63,7 +63,7 @@ impl Gate {
     // The answer to a request, whose first byte is 4: whoever is let in may.
     pub fn answer(&self, bytes: &[u8], memory: &mut [u64]) -> Result<Answer, ShortMemory>
         ensures value { MatchResult result (λ a. a ≡ answer (state_of self.now) bytes.now) (λ _. length memory.old < 16384) }
-        ensures memory { MatchResult result (λ _. memory.new ≡ leftBy (state_of self.now) bytes.now memory.old) (λ _. memory.new ≡ memory.old) }
+        ensures memory { MatchResult result (λ _. memory.new ≡ left_by (state_of self.now) bytes.now memory.old) (λ _. memory.new ≡ memory.old) }
         ensures front { IfOk result (λ a. AnsweredByFront (state_of self.now) bytes.now a) }
         ensures promised { IfOk result (λ a. KeptAnswer (state_of self.now) bytes.now a) }
     {

@@ -4,9 +4,9 @@ ghost use Rattle.certificates.specs.Certificates.{WellFormed};
 ghost use Rattle.gates.specs.Gates.{state_of};
 ghost use Rattle.gates.specs.declared.troubles.Trouble.TheVariants.{NoMemory, UnknownHouse};
 ghost use Rattle.promise.specs.Happened.{read_on};
-ghost use Rattle.promise.specs.States.{newGate, issue, revoke, passDay, take, takeFirst};
+ghost use Rattle.promise.specs.States.{fresh_gate, issue, revoke, day_passed, take, first_taken};
 ghost use Rattle.wire.specs.Exact.{Writable};
-ghost use Rattle.wire.specs.Reading.{readEvent, reading_of};
+ghost use Rattle.wire.specs.Reading.{event_read, reading_of};
 
 use crate::Gate;
 use crate::troubles::Trouble;
@@ -19,7 +19,7 @@ use wire::reading::{Refusal, read_event};
 
 // Reads the first event of some bytes: what was read is well formed, and less is left.
 fn read_first(bytes: &[u8]) -> Result<(Event, &[u8]), Refusal<'_>>
-    ensures value { reading_of result ≡ readEvent bytes.now }
+    ensures value { reading_of result ≡ event_read bytes.now }
     ensures writable { IfOk result (λ p. Writable p.0) }
     ensures shorter { 0 < length bytes.now → length (read_on (reading_of result)) < length bytes.now }
 {
@@ -29,7 +29,7 @@ fn read_first(bytes: &[u8]) -> Result<(Event, &[u8]), Refusal<'_>>
 impl Gate {
     // A gate of `owner` on day 0, without certificates.
     pub fn new(heap: Global, owner: u16) -> Result<Gate, Trouble>
-        ensures { MatchResult result (λ g. (state_of g ≡ newGate owner) × (owner ≤ 1023)) (λ t. t ≡ (if nat_le owner 1023 then NoMemory else UnknownHouse)) }
+        ensures { MatchResult result (λ g. (state_of g ≡ fresh_gate owner) × (owner ≤ 1023)) (λ t. t ≡ (if nat_le owner 1023 then NoMemory else UnknownHouse)) }
     {
         if owner > LAST_HOUSE {
             return Err(Trouble::UnknownHouse);
@@ -67,7 +67,7 @@ impl Gate {
 
     // A day passes, unless it is the last.
     fn pass_day(mut self) -> (Gate, Option<Fault>)
-        ensures { (state_of result.0, result.1) ≡ passDay (state_of self) }
+        ensures { (state_of result.0, result.1) ≡ day_passed (state_of self) }
     {
         let Some(next) = self.day.checked_add(1) else {
             return (self, Some(Fault::LastDay));
@@ -89,7 +89,7 @@ impl Gate {
     }
     // Takes the first event of some bytes: the gate after it, the fault where it is refused, and what is read on.
     pub fn take_first(self, bytes: &[u8]) -> (Gate, Option<Fault>, &[u8])
-        ensures value { ((state_of result.0, result.1), result.2.now) ≡ takeFirst (state_of self) (readEvent bytes.now) }
+        ensures value { ((state_of result.0, result.1), result.2.now) ≡ first_taken (state_of self) (event_read bytes.now) }
         ensures shorter { 0 < length bytes.now → length result.2.now < length bytes.now }
     {
         match read_first(bytes) {

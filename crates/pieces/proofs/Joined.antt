@@ -1,11 +1,11 @@
 -- Pieces of a delivery join to the whole. Assumes nothing.
 use Rattle.std.proofs.Common.{◌≡◌, ℕ, ◌<◌, Bool, true, false, eqb, List, [], ◌∷◌, ◌++◌, Some, None, Option, sym, refl, ap, ◌∙◌, append_assoc, append-nil}
 use Rattle.pieces.proofs.PieceByPiece.{Taken}
-use Rattle.pieces.specs.Pieces.{goneOn, holdsEvents, KeptPiece, Pieces-join}
+use Rattle.pieces.specs.Pieces.{gone_on, holds_events, KeptPiece, PiecesJoin}
 use Rattle.promise.proofs.OnCall.{one-after}
 use Rattle.promise.specs.Promise.{Bytes}
 use Rattle.promise.specs.Requests.{receive, run}
-use Rattle.promise.specs.States.{State, deliver, deliverWithin, newGate}
+use Rattle.promise.specs.States.{State, deliver, deliver_within, fresh_gate}
 use Rattle.promise.specs.declared.answers.Answer.{Answer}
 use Rattle.sheets.proofs.LineRead.{bytes_rest}
 use Rattle.sheets.proofs.Shown.{impossible}
@@ -13,7 +13,7 @@ use Rattle.std.proofs.ByRecursion.{All-append}
 use Rattle.std.proofs.lemmas.Bool.{not-true}
 
 -- answers are told apart from the gate
-same-gate : (g : State) (answers : List Answer) (rest : Option (List ℕ)) (more : List ℕ) → (goneOn g answers rest more).0 ≡ (goneOn g [] rest more).0
+same-gate : (g : State) (answers : List Answer) (rest : Option (List ℕ)) (more : List ℕ) → (gone_on g answers rest more).0 ≡ (gone_on g [] rest more).0
 same-gate g answers None more = refl
 same-gate g answers (Some rest) more = refl
 
@@ -30,15 +30,15 @@ piece-kept g answers piece last g' answers' rest t owner ds front left fresh is 
     never_true : {A : Type 0} → ◌≡◌ {A = Bool} false true → A
     never_true e = impossible (cc)
 
-received : (g : State) (d : List ℕ) → holdsEvents d ≡ true → (receive g d).0 ≡ (deliver g d).0
-unfolding deliverWithin
+received : (g : State) (d : List ℕ) → holds_events d ≡ true → (receive g d).0 ≡ (deliver g d).0
+unfolding deliver_within
 received g [] events = refl
 received g (b ∷ s) events = rw (not-true (eqb b 4) events)
 
-pub pieces-join : Pieces-join
-unfolding deliverWithin
+pub pieces-join : PiecesJoin
+unfolding deliver_within
 pieces-join = record {
-  begins = λ owner ds more small follows events. one-after (newGate owner) ds more ∙ received (run owner ds) more events;
+  begins = λ owner ds more small follows events. one-after (fresh_gate owner) ds more ∙ received (run owner ds) more events;
   ends = λ owner ds d g events way. sym (ap (λ (s : List ℕ). run owner (ds ++ (s ∷ []))) (sym (append-nil d)) ∙ way [] tt (λ is. refl) (rw append-nil events));
   stops = λ owner ds front last g more small follows events way. sym (way more small follows events);
 }

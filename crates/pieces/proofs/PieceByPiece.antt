@@ -3,9 +3,9 @@ use Rattle.std.proofs.Common.{◌≡◌, ℕ, zero, suc, ◌+◌, ◌<◌, ◌�
 use Rattle.promise.proofs.Told.{told-noting}
 use Rattle.promise.proofs.Readable.{rest-bytes}
 use Rattle.promise.proofs.Shorter.{shorter}
-use Rattle.promise.specs.States.{State, Taken as AfterEvent, take, takeFirst, Delivered, noting, deliverWithin, deliver}
+use Rattle.promise.specs.States.{State, Taken as AfterEvent, take, first_taken, Delivered, noting, deliver_within, deliver}
 use Rattle.promise.specs.Happened.{read_on}
-use Rattle.pieces.specs.Pieces.{PieceTaken, leftLength, stopped, ready}
+use Rattle.pieces.specs.Pieces.{PieceTaken, left_length, stopped, ready}
 use Rattle.promise.specs.Promise.{Bytes}
 use Rattle.promise.specs.Requests.{told}
 use Rattle.promise.specs.declared.answers.Answer.{Answer}
@@ -15,32 +15,32 @@ use Rattle.std.proofs.lemmas.Bool.{cond_both, eqb-false, leb-true, and_parts, or
 use Rattle.std.specs.Option.{option_to_list}
 use Rattle.wire.proofs.Exact.{exactly}
 use Rattle.wire.proofs.Longest as longest
-use Rattle.wire.specs.Enough.{stops, followedBy}
+use Rattle.wire.specs.Enough.{stops, followed_by}
 use Rattle.wire.specs.Exact.{Exactly}
-use Rattle.wire.specs.Reading.{Reading, readEvent}
+use Rattle.wire.specs.Reading.{Reading, event_read}
 use Rattle.wire.specs.declared.events.Event.{Event}
 use Rattle.wire.specs.declared.events.Event.TheVariants.{Issued, Revoked, DayPassed}
 use Rattle.wire.specs.declared.faults.Fault.{Fault}
 use Rattle.wire.specs.declared.faults.Fault.TheVariants.{Malformed, OutOfRange, TooManyCertificates, UnknownCertificate, LastDay, TooManyLines, LineCut, LineOutOfRange, LineUnknown, NotValid, NotGiven, IssuerNotShown, StepNotShown, HouseNotShown, NoSheet}
 
-first_on : (g : State) (r : Reading) → (takeFirst g r).1 ≡ read_on r
+first_on : (g : State) (r : Reading) → (first_taken g r).1 ≡ read_on r
 first_on g (Ok p) = refl
 first_on g (Err e) = refl
 
 -- what the first event leaves is bytes, and fewer
 module _ (g : State) (b : ℕ) (s : List ℕ) (small : Bytes (b ∷ s)) where
   abbrev first : AfterEvent × List ℕ
-  first = takeFirst g (readEvent (b ∷ s))
+  first = first_taken g (event_read (b ∷ s))
 
   first-bytes : Bytes first.1
-  first-bytes = rw (first_on g (readEvent (b ∷ s))) (rest-bytes (b ∷ s) (readEvent (b ∷ s)) (exactly (b ∷ s) small) small)
+  first-bytes = rw (first_on g (event_read (b ∷ s))) (rest-bytes (b ∷ s) (event_read (b ∷ s)) (exactly (b ∷ s) small) small)
 
   first-shorter : length first.1 ≤ length s
-  first-shorter = omega (arith, ap length (first_on g (readEvent (b ∷ s))), shorter (b ∷ s) (readEvent (b ∷ s)) (exactly (b ∷ s) small) (omega arith))
+  first-shorter = omega (arith, ap length (first_on g (event_read (b ∷ s))), shorter (b ∷ s) (event_read (b ∷ s)) (exactly (b ∷ s) small) (omega arith))
 
 -- turns beyond the number of bytes change nothing
-same-turns : (n m : ℕ) (g : State) (s : List ℕ) → Bytes s → length s ≤ n → length s ≤ m → deliverWithin n g s ≡ deliverWithin m g s
-unfolding deliverWithin
+same-turns : (n m : ℕ) (g : State) (s : List ℕ) → Bytes s → length s ≤ n → length s ≤ m → deliver_within n g s ≡ deliver_within m g s
+unfolding deliver_within
 same-turns zero zero g s small p q = refl
 same-turns zero (suc m) g [] small p q = refl
 same-turns zero (suc m) g (b ∷ s) small p q = let none : ⊥ = omega arith in absurd none
@@ -48,17 +48,17 @@ same-turns (suc n) zero g [] small p q = refl
 same-turns (suc n) zero g (b ∷ s) small p q = let none : ⊥ = omega arith in absurd none
 same-turns (suc n) (suc m) g [] small p q = refl
 same-turns (suc n) (suc m) g (b ∷ s) small p q =
-    let t = takeFirst g (readEvent (b ∷ s)) in
+    let t = first_taken g (event_read (b ∷ s)) in
     let less = first-shorter g b s small in
     ap (noting t.0.1) (same-turns n m t.0.0 t.1 (first-bytes g b s small) (omega arith) (omega arith))
 
 -- a delivery is its first event, and then the rest
 deliver-first : (g : State) (s : List ℕ) → Bytes s → 0 < length s →
-    deliver g s ≡ noting (takeFirst g (readEvent s)).0.1 (deliver (takeFirst g (readEvent s)).0.0 (takeFirst g (readEvent s)).1)
-unfolding deliverWithin
+    deliver g s ≡ noting (first_taken g (event_read s)).0.1 (deliver (first_taken g (event_read s)).0.0 (first_taken g (event_read s)).1)
+unfolding deliver_within
 deliver-first g [] small some = let none : ⊥ = omega arith in absurd none
 deliver-first g (b ∷ s) small some =
-    let t = takeFirst g (readEvent (b ∷ s)) in
+    let t = first_taken g (event_read (b ∷ s)) in
     let less = first-shorter g b s small in
     ap (noting t.0.1) (same-turns (length s) (length t.1) t.0.0 t.1 (first-bytes g b s small) (omega arith) (omega arith))
 
@@ -70,11 +70,11 @@ goes_on g DayPassed = cond_both (ltb g.day 4294967295) _ _ (λ (t : AfterEvent).
 
 -- the first event of a piece that more follows
 first-followed : (g : State) (more : List ℕ) (r : Reading) →
-    takeFirst g (followedBy more r) ≡ ((takeFirst g r).0, cond (stopped (takeFirst g r).0.1) [] ((takeFirst g r).1 ++ more))
+    first_taken g (followed_by more r) ≡ ((first_taken g r).0, cond (stopped (first_taken g r).0.1) [] ((first_taken g r).1 ++ more))
 first-followed g more (Ok p) = rw (goes_on g p.0)
 first-followed g more (Err e) = refl
 
-nothing-follows : (s : List ℕ) (r : Reading) → Exactly s r → r ≡ followedBy [] r
+nothing-follows : (s : List ℕ) (r : Reading) → Exactly s r → r ≡ followed_by [] r
 nothing-follows s (Ok p) exact = ap (λ (rest : List ℕ). Ok (p.0, rest)) (sym (append-nil p.1))
 nothing-follows s (Err e) exact = ap (λ (rest : List ℕ). Err (e.0, rest)) (⊎_elim
     (λ out. rw out (sym (append-nil e.1)))
@@ -82,15 +82,15 @@ nothing-follows s (Err e) exact = ap (λ (rest : List ℕ). Err (e.0, rest)) (�
     (exact.stops e.0 e.1 refl))
 
 -- a piece is long enough, or nothing follows it
-pub read_first : (s more : List ℕ) → Bytes s → Bytes more → (533 ≤ length s) ⊎ (more ≡ []) → readEvent (s ++ more) ≡ followedBy more (readEvent s)
+pub read_first : (s more : List ℕ) → Bytes s → Bytes more → (533 ≤ length s) ⊎ (more ≡ []) → event_read (s ++ more) ≡ followed_by more (event_read s)
 read_first s more small small-more (inl long) = longest.enough s more small small-more long
-read_first s more small small-more (inr none) = rw (none, append-nil s) (nothing-follows s (readEvent s) (exactly s small))
+read_first s more small small-more (inr none) = rw (none, append-nil s) (nothing-follows s (event_read s) (exactly s small))
 
 -- a piece was taken; there are no more answers than bytes, since each is to an event, which has at least one
 pub record Taken (g : State) (answers : List Answer) (piece : List ℕ) (last : Bool) (g' : State) (answers' : List Answer) (rest : Option (List ℕ)) : Type 0 where
   pub bytes : Bytes piece
   pub whole : PieceTaken g answers piece last g' answers' rest
-  pub fewer : length answers' + leftLength rest ≤ length answers + length piece
+  pub fewer : length answers' + left_length rest ≤ length answers + length piece
 
 -- some events of a piece were taken: whatever follows, the rest gives the same as the whole
 pub record So-far (before : State) (noted : List Answer) (piece : List ℕ) (last : Bool) (g : State) (answers : List Answer) (rest : List ℕ) : Type 0 where
@@ -103,7 +103,7 @@ none-taken g answers piece last small = record { small = small; fewer = omega ar
 
 module _ (before g next : State) (noted : List Answer) (piece : List ℕ) (last : Bool) (answers : List Answer) (rest : List ℕ) (fault : Option Fault) (behind : List ℕ)
     (so : So-far before noted piece last g answers rest) (is-ready : ready rest last ≡ true)
-    (taken : ((next, fault), behind) ≡ takeFirst g (readEvent rest)) (less : 0 < length rest → length behind < length rest) where
+    (taken : ((next, fault), behind) ≡ first_taken g (event_read rest)) (less : 0 < length rest → length behind < length rest) where
   some : 0 < length rest
   some = omega (arith, eqb-false (length rest) 0 (not-true (eqb (length rest) 0) (and_parts (not (eqb (length rest) 0)) (last || leb 533 (length rest)) is-ready).0))
 
@@ -119,14 +119,14 @@ module _ (before g next : State) (noted : List Answer) (piece : List ℕ) (last 
       so.same more small-more follows
       ∙ ap (told answers)
       (deliver-first g (rest ++ more) (All-append (λ b. b < 256) rest more so.small small-more) long
-      ∙ (ap (λ (r : Reading). step (takeFirst g r)) (read_first rest more so.small small-more (⊎_elim inl (λ is. inr (follows is)) enough))
-      ∙ (ap step (first-followed g more (readEvent rest))
+      ∙ (ap (λ (r : Reading). step (first_taken g r)) (read_first rest more so.small small-more (⊎_elim inl (λ is. inr (follows is)) enough))
+      ∙ (ap step (first-followed g more (event_read rest))
       ∙ ap (λ (t : AfterEvent × List ℕ). step (t.0, cond (stopped t.0.1) [] (t.1 ++ more))) (sym taken))))
 
   rest-small : Bytes behind
   rest-small = ap-rest rest some so.small taken
     where
-      ap-rest : (r : List ℕ) → 0 < length r → Bytes r → ((next, fault), behind) ≡ takeFirst g (readEvent r) → Bytes behind
+      ap-rest : (r : List ℕ) → 0 < length r → Bytes r → ((next, fault), behind) ≡ first_taken g (event_read r) → Bytes behind
       ap-rest [] none small is = let never : ⊥ = omega arith in absurd never
       ap-rest (b ∷ r) there small is = rw (ap (λ (t : AfterEvent × List ℕ). t.1) is) (first-bytes g b r small)
 
@@ -152,7 +152,7 @@ module _ (before g next : State) (noted : List Answer) (piece : List ℕ) (last 
   -- nothing more is read
   pub reading-ends : (more-answers : List Answer) → Bytes piece → stopped fault ≡ true → more-answers ≡ answers ++ map Refused (option_to_list fault) →
       Taken before noted piece last next more-answers None
-  unfolding deliverWithin
+  unfolding deliver_within
   reading-ends more-answers small off added = record {
     bytes = small;
     fewer = omega (arith, answered-once more-answers added, so.fewer, some);

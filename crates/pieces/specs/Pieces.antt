@@ -8,14 +8,14 @@ use Rattle.wire.specs.Enough.{stops}
 use Rattle.wire.specs.declared.faults.Fault.{Fault}
 
 -- the rest of a delivery: nothing more of it is read, or what is left of a piece stands before what follows
-abbrev pub goneOn : State → List Answer → Option (List ℕ) → List ℕ → State × List Answer
-goneOn g answers None more = (g, answers)
-goneOn g answers (Some rest) more = told answers (deliver g (rest ++ more))
+abbrev pub gone_on : State → List Answer → Option (List ℕ) → List ℕ → State × List Answer
+gone_on g answers None more = (g, answers)
+gone_on g answers (Some rest) more = told answers (deliver g (rest ++ more))
 
 -- a piece was taken: whatever follows it, the rest gives the same as the whole
 abbrev pub PieceTaken : State → List Answer → List ℕ → Bool → State → List Answer → Option (List ℕ) → Type 0
 PieceTaken g answers piece last g' answers' rest =
-    (more : List ℕ) → Bytes more → (last ≡ true → more ≡ []) → told answers (deliver g (piece ++ more)) ≡ goneOn g' answers' rest more
+    (more : List ℕ) → Bytes more → (last ≡ true → more ≡ []) → told answers (deliver g (piece ++ more)) ≡ gone_on g' answers' rest more
 
 -- nothing more is read behind the event
 abbrev pub stopped : Option Fault → Bool
@@ -31,20 +31,20 @@ abbrev pub LeftOver : ℕ → ℕ → Bool → Option (List ℕ) → Type 0
 LeftOver room held last None = Unit {0}
 LeftOver room held last (Some rest) = (room ≤ held) ⊎ (ready rest last ≡ false)
 
-abbrev pub leftLength : Option (List ℕ) → ℕ
-leftLength None = 0
-leftLength (Some rest) = length rest
+abbrev pub left_length : Option (List ℕ) → ℕ
+left_length None = 0
+left_length (Some rest) = length rest
 
 -- a delivery that is no request
-abbrev pub holdsEvents : List ℕ → Bool
-holdsEvents [] = true
-holdsEvents (b ∷ s) = not (b == 4)
+abbrev pub holds_events : List ℕ → Bool
+holds_events [] = true
+holds_events (b ∷ s) = not (b == 4)
 
 -- Behind the deliveries ds the gate g is on its way through one more, of which `front` came and `left` is not taken:
 -- whatever follows (nothing, behind the last piece), going on with what is left gives the gate after the whole delivery.
 abbrev pub Underway : ℕ → List (List ℕ) → List ℕ → Bool → State → Option (List ℕ) → Type 0
 Underway owner ds front last g left =
-    (more : List ℕ) → Bytes more → (last ≡ true → more ≡ []) → holdsEvents (front ++ more) ≡ true → run owner (ds ++ ((front ++ more) ∷ [])) ≡ (goneOn g [] left more).0
+    (more : List ℕ) → Bytes more → (last ≡ true → more ≡ []) → holds_events (front ++ more) ≡ true → run owner (ds ++ ((front ++ more) ∷ [])) ≡ (gone_on g [] left more).0
 
 -- what a gate keeps when it takes a piece, which is what was left of those before it and some fresh bytes: it goes on its way
 abbrev pub KeptPiece : State → List ℕ → Bool → State → Option (List ℕ) → Type 0
@@ -53,9 +53,9 @@ KeptPiece g piece last g' rest =
     Underway owner ds (front ++ fresh) last g' rest
 
 -- the way begins at the gate after the deliveries before, and ends at the gate after the whole delivery
-pub record Pieces-join : Type 0 where
+pub record PiecesJoin : Type 0 where
   pub begins : (owner : ℕ) (ds : List (List ℕ)) → Underway owner ds [] false (run owner ds) (Some [])
-  pub ends : (owner : ℕ) (ds : List (List ℕ)) (d : List ℕ) (g : State) → holdsEvents d ≡ true → Underway owner ds d true g (Some []) → g ≡ run owner (ds ++ (d ∷ []))
+  pub ends : (owner : ℕ) (ds : List (List ℕ)) (d : List ℕ) (g : State) → holds_events d ≡ true → Underway owner ds d true g (Some []) → g ≡ run owner (ds ++ (d ∷ []))
   -- where nothing more of a delivery is read, it is the gate after it, whatever more the delivery has
   pub stops : (owner : ℕ) (ds : List (List ℕ)) (front : List ℕ) (last : Bool) (g : State) (more : List ℕ) → Bytes more → (last ≡ true → more ≡ []) →
-      holdsEvents (front ++ more) ≡ true → Underway owner ds front last g None → g ≡ run owner (ds ++ ((front ++ more) ∷ []))
+      holds_events (front ++ more) ≡ true → Underway owner ds front last g None → g ≡ run owner (ds ++ ((front ++ more) ∷ []))

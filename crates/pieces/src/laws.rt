@@ -1,7 +1,7 @@
 // Pieces of a delivery join to the whole: nothing is computed here, the clause is a theorem that the check proves.
-ghost use Rattle.pieces.specs.Pieces.{Pieces-join};
+ghost use Rattle.pieces.specs.Pieces.{PiecesJoin};
 
 // A gate that took a delivery in pieces is the gate after that delivery.
 pub fn law_of_pieces()
-    ensures { Pieces-join }
+    ensures { PiecesJoin }
 {}

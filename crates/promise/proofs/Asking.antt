@@ -4,15 +4,15 @@ use Rattle.certificates.specs.Certificates.{WellFormed}
 use Rattle.certificates.specs.Meaning.{May}
 use Rattle.promise.proofs.HeadRead.{head_read}
 use Rattle.promise.specs.States.{State}
-use Rattle.promise.specs.Promise.{Bytes, requestBytes}
-use Rattle.promise.specs.Requests.{decided, answerHead, receive}
+use Rattle.promise.specs.Promise.{Bytes, request_bytes}
+use Rattle.promise.specs.Requests.{decided, answer_head, receive}
 use Rattle.promise.specs.declared.answers.Answer.{Answer}
 use Rattle.promise.specs.declared.answers.Answer.TheVariants.{Open}
 use Rattle.sheets.proofs.Complete.{complete}
 use Rattle.sheets.proofs.SheetRead.{checks-exactly}
 use Rattle.sheets.proofs.Slots.{subjectHouses, subjects-covered}
 use Rattle.sheets.proofs.Written.{holds-writable}
-use Rattle.sheets.specs.Bytes.{lineBytes, sheetBytes}
+use Rattle.sheets.specs.Bytes.{line_bytes, bytes_of_sheet}
 use Rattle.sheets.specs.Sheets.{Line, holds}
 use Rattle.std.proofs.lemmas.Nat.{mod_below}
 use Rattle.std.proofs.ByRecursion.{All-push, All-append}
@@ -30,8 +30,8 @@ joined_small : {X : Type 0} (f : X → List ℕ) → ((x : X) → Bytes (f x)) �
 joined_small f small [] = tt
 joined_small f small (x ∷ xs) = All-append (λ b. b < 256) (f x) (flat_map f xs) (small x) (joined_small f small xs)
 
-sheet-small : (lines : List Line) → Bytes (sheetBytes lines)
-sheet-small = joined_small lineBytes λ l. All-append (λ b. b < 256) (bytes 2 l.certificate) (flat_map (bytes 2) l.houses) (bytes_small 2 l.certificate) (joined_small (bytes 2) (bytes_small 2) l.houses)
+sheet-small : (lines : List Line) → Bytes (bytes_of_sheet lines)
+sheet-small = joined_small line_bytes λ l. All-append (λ b. b < 256) (bytes 2 l.certificate) (flat_map (bytes 2) l.houses) (bytes_small 2 l.certificate) (joined_small (bytes 2) (bytes_small 2) l.houses)
 
 -- a sheet for the house that holds, and is short enough for the gate
 pub record Sheet (g : State) (house right : ℕ) (lines : List Line) : Type 0 where
@@ -47,12 +47,12 @@ module _ (g : State) (few : length g.certificates ≤ 1024) (house right : ℕ) 
       (lines, record { held = held; short = omega (arith, simp length-map at most, mul-le-mul_left (length cs) few) })
 
   pub lets-in : All WellFormed g.certificates → house < 1024 → right < 64 → (lines : List Line) → Sheet g house right lines →
-      (receive g (requestBytes house right lines)).1 ≡ Open ∷ []
+      (receive g (request_bytes house right lines)).1 ≡ Open ∷ []
   lets-in well known small lines s =
       let cs = g.certificates in
       let n = length lines in
-      let head = head_read house right n known small (omega arith) (sheetBytes lines) in
+      let head = head_read house right n known small (omega arith) (bytes_of_sheet lines) in
       let writable = holds-writable cs well g.day right g.owner house lines s.held in
-      let found = (checks-exactly cs well few g.day right g.owner house n (sheetBytes lines) (sheet-small lines)).1 (lines, refl, writable, refl, s.held) in
-      ap (λ (a : Answer). a ∷ []) (ap (answerHead g) head
+      let found = (checks-exactly cs well few g.day right g.owner house n (bytes_of_sheet lines) (sheet-small lines)).1 (lines, refl, writable, refl, s.held) in
+      ap (λ (a : Answer). a ∷ []) (ap (answer_head g) head
       ∙ rw (le-leb house 1023 (omega arith), le-leb right 63 (omega arith), le-leb n (length cs * 1024) s.short) (ap decided found))

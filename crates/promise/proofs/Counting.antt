@@ -1,11 +1,11 @@
 -- A gate after some events: its owner, the day, how many certificates it has and that they are well formed. Assumes nothing.
 use Rattle.std.proofs.Common.{◌≡◌, ℕ, zero, suc, ◌+◌, ◌≤◌, min, List, [], ◌∷◌, ◌++◌, length, refl, arith}
-use Rattle.certificates.specs.Certificates.{WellFormed, revokedOf}
+use Rattle.certificates.specs.Certificates.{WellFormed, revoked_of}
 use Rattle.certificates.specs.declared.Certificate.{Certificate}
 use Rattle.promise.proofs.Eventful.{afterEvents}
 use Rattle.promise.proofs.Once.{holding, onDay, once-issued, once-revoked, once-passed}
-use Rattle.promise.specs.States.{State, revokeAt}
-use Rattle.promise.specs.Happened.{daysIn, issuedIn}
+use Rattle.promise.specs.States.{State, revoke_at}
+use Rattle.promise.specs.Happened.{days_in, issued_in}
 use Rattle.registry.proofs.Kept.{length-revoked}
 use Rattle.std.proofs.ByRecursion.{All-push}
 use Rattle.std.proofs.lemmas.List.{length_push}
@@ -14,21 +14,21 @@ use Rattle.wire.specs.Exact.{Writable}
 use Rattle.wire.specs.declared.events.Event.{Event}
 use Rattle.wire.specs.declared.events.Event.TheVariants.{Issued, Revoked, DayPassed}
 
-revoked-well : (c : Certificate) → WellFormed c → WellFormed (revokedOf c)
+revoked-well : (c : Certificate) → WellFormed c → WellFormed (revoked_of c)
 revoked-well c w = record {
-  issuer-known = w.issuer-known;
-  house-known = w.house-known;
+  issuer_known = w.issuer_known;
+  house_known = w.house_known;
   first_fits = omega arith;
   last_fits = omega arith;
-  six-places = w.six-places;
-  few-names = w.few-names;
-  names-fit = w.names-fit;
-  zero-behind = w.zero-behind;
+  six_places = w.six_places;
+  few_names = w.few_names;
+  names_fit = w.names_fit;
+  zero_behind = w.zero_behind;
   sensible = w.sensible;
 }
 
-revokeAt-well : (i : ℕ) (cs : List Certificate) → All WellFormed cs → All WellFormed (revokeAt i cs)
-unfolding revokeAt
+revokeAt-well : (i : ℕ) (cs : List Certificate) → All WellFormed cs → All WellFormed (revoke_at i cs)
+unfolding revoke_at
 revokeAt-well i [] well = tt
 revokeAt-well zero (c ∷ cs) well = (revoked-well c well.0, well.1)
 revokeAt-well (suc i) (c ∷ cs) well = (well.0, revokeAt-well i cs well.1)
@@ -53,34 +53,34 @@ owner-after g [] = refl
 owner-after g (Issued c ∷ events) =
     once-issued g (OwnerIs events g.owner) c (λ room. owner-after (holding g (g.certificates ++ (c ∷ []))) events) (λ full. owner-after g events)
 owner-after g (Revoked n ∷ events) =
-    once-revoked g (OwnerIs events g.owner) n (λ known. owner-after (holding g (revokeAt n g.certificates)) events) (λ unknown. owner-after g events)
+    once-revoked g (OwnerIs events g.owner) n (λ known. owner-after (holding g (revoke_at n g.certificates)) events) (λ unknown. owner-after g events)
 owner-after g (DayPassed ∷ events) = once-passed g (OwnerIs events g.owner) (λ next. owner-after (onDay g (g.day + 1)) events) (λ last. owner-after g events)
 
-pub day-after : (g : State) (events : List Event) → g.day ≤ 4294967295 → DayIs events (g.day + daysIn events) g
-unfolding afterEvents daysIn
-day-after g [] most = omega arith
-day-after g (Issued c ∷ events) most =
-    once-issued g (DayIs events (g.day + daysIn events)) c (λ room. day-after (holding g (g.certificates ++ (c ∷ []))) events most) (λ full. day-after g events most)
-day-after g (Revoked n ∷ events) most =
-    once-revoked g (DayIs events (g.day + daysIn events)) n (λ known. day-after (holding g (revokeAt n g.certificates)) events most) (λ unknown. day-after g events most)
-day-after g (DayPassed ∷ events) most =
-    once-passed g (DayIs events (g.day + suc (daysIn events)))
-    (λ next. omega (arith, day-after (onDay g (g.day + 1)) events (omega arith))) (λ last. omega (arith, day-after g events most))
+pub day_after : (g : State) (events : List Event) → g.day ≤ 4294967295 → DayIs events (g.day + days_in events) g
+unfolding afterEvents days_in
+day_after g [] most = omega arith
+day_after g (Issued c ∷ events) most =
+    once-issued g (DayIs events (g.day + days_in events)) c (λ room. day_after (holding g (g.certificates ++ (c ∷ []))) events most) (λ full. day_after g events most)
+day_after g (Revoked n ∷ events) most =
+    once-revoked g (DayIs events (g.day + days_in events)) n (λ known. day_after (holding g (revoke_at n g.certificates)) events most) (λ unknown. day_after g events most)
+day_after g (DayPassed ∷ events) most =
+    once-passed g (DayIs events (g.day + suc (days_in events)))
+    (λ next. omega (arith, day_after (onDay g (g.day + 1)) events (omega arith))) (λ last. omega (arith, day_after g events most))
 
-pub count-after : (g : State) (events : List Event) → length g.certificates ≤ 1024 → CountIs events (length g.certificates + issuedIn events) g
-unfolding afterEvents issuedIn
+pub count-after : (g : State) (events : List Event) → length g.certificates ≤ 1024 → CountIs events (length g.certificates + issued_in events) g
+unfolding afterEvents issued_in
 count-after g [] few = omega arith
 count-after g (Issued c ∷ events) few =
     let more = g.certificates ++ (c ∷ []) in
     let one = length_push g.certificates c in
-    once-issued g (CountIs events (length g.certificates + suc (issuedIn events))) c
+    once-issued g (CountIs events (length g.certificates + suc (issued_in events))) c
     (λ room. omega (arith, one, count-after (holding g more) events (omega arith))) (λ full. omega (arith, count-after g events few))
 count-after g (Revoked n ∷ events) few =
     let same = length-revoked n g.certificates in
-    once-revoked g (CountIs events (length g.certificates + issuedIn events)) n
-    (λ known. omega (arith, same, count-after (holding g (revokeAt n g.certificates)) events (omega arith))) (λ unknown. count-after g events few)
+    once-revoked g (CountIs events (length g.certificates + issued_in events)) n
+    (λ known. omega (arith, same, count-after (holding g (revoke_at n g.certificates)) events (omega arith))) (λ unknown. count-after g events few)
 count-after g (DayPassed ∷ events) few =
-    once-passed g (CountIs events (length g.certificates + issuedIn events)) (λ next. count-after (onDay g (g.day + 1)) events few) (λ last. count-after g events few)
+    once-passed g (CountIs events (length g.certificates + issued_in events)) (λ next. count-after (onDay g (g.day + 1)) events few) (λ last. count-after g events few)
 
 pub well-after : (g : State) (events : List Event) → All Writable events → All WellFormed g.certificates → StaysWell events g
 unfolding afterEvents
@@ -91,7 +91,7 @@ well-after g (Issued c ∷ events) writable well =
     (λ full. well-after g events writable.1 well)
 well-after g (Revoked n ∷ events) writable well =
     once-revoked g (StaysWell events) n
-    (λ known. well-after (holding g (revokeAt n g.certificates)) events writable.1 (revokeAt-well n g.certificates well))
+    (λ known. well-after (holding g (revoke_at n g.certificates)) events writable.1 (revokeAt-well n g.certificates well))
     (λ unknown. well-after g events writable.1 well)
 well-after g (DayPassed ∷ events) writable well =
     once-passed g (StaysWell events) (λ next. well-after (onDay g (g.day + 1)) events writable.1 well) (λ last. well-after g events writable.1 well)

@@ -1,10 +1,10 @@
 -- A gate after some deliveries is the gate after the events that they hold. Assumes nothing.
 use Rattle.std.proofs.Common.{◌≡◌, ℕ, zero, suc, Bool, true, false, cond, eqb, List, [], ◌∷◌, ◌++◌, length, Some, None, Ok, Err, Option, sym, refl, ap, ◌∙◌}
-use Rattle.promise.specs.States.{State, take, takeFirst, Delivered, noting, deliverWithin}
-use Rattle.promise.specs.Happened.{noted, read_on, eventsWithin, eventsOf, happened}
+use Rattle.promise.specs.States.{State, take, first_taken, Delivered, noting, deliver_within}
+use Rattle.promise.specs.Happened.{noted, read_on, events_within, events_of, happened}
 use Rattle.promise.specs.Requests.{receive, receive_all}
 use Rattle.promise.specs.declared.answers.Answer.{Answer}
-use Rattle.wire.specs.Reading.{Reading, readEvent}
+use Rattle.wire.specs.Reading.{Reading, event_read}
 use Rattle.wire.specs.declared.events.Event.{Event}
 use Rattle.wire.specs.declared.faults.Fault.{Fault}
 
@@ -22,18 +22,18 @@ noting-leaves : (fault : Option Fault) (d : Delivered) → (noting fault d).0 �
 noting-leaves None d = refl
 noting-leaves (Some fault) d = refl
 
-within-events : (n : ℕ) (g : State) (s : List ℕ) → (deliverWithin n g s).0 ≡ afterEvents g (eventsWithin n s)
-unfolding deliverWithin eventsWithin afterEvents
+within-events : (n : ℕ) (g : State) (s : List ℕ) → (deliver_within n g s).0 ≡ afterEvents g (events_within n s)
+unfolding deliver_within events_within afterEvents
 within-events zero g s = refl
 within-events (suc n) g [] = refl
-within-events (suc n) g (b ∷ s) = first (within-events n) (readEvent (b ∷ s))
+within-events (suc n) g (b ∷ s) = first (within-events n) (event_read (b ∷ s))
   where
-    first : ((g : State) (s : List ℕ) → (deliverWithin n g s).0 ≡ afterEvents g (eventsWithin n s)) → (r : Reading) →
-        (noting (takeFirst g r).0.1 (deliverWithin n (takeFirst g r).0.0 (takeFirst g r).1)).0 ≡ afterEvents g (noted r (eventsWithin n (read_on r)))
-    first behind (Ok p) = noting-leaves (take g p.0).1 (deliverWithin n (take g p.0).0 p.1) ∙ behind (take g p.0).0 p.1
+    first : ((g : State) (s : List ℕ) → (deliver_within n g s).0 ≡ afterEvents g (events_within n s)) → (r : Reading) →
+        (noting (first_taken g r).0.1 (deliver_within n (first_taken g r).0.0 (first_taken g r).1)).0 ≡ afterEvents g (noted r (events_within n (read_on r)))
+    first behind (Ok p) = noting-leaves (take g p.0).1 (deliver_within n (take g p.0).0 p.1) ∙ behind (take g p.0).0 p.1
     first behind (Err e) = behind g e.1
 
-receive-events : (g : State) (d : List ℕ) → (receive g d).0 ≡ afterEvents g (eventsOf d)
+receive-events : (g : State) (d : List ℕ) → (receive g d).0 ≡ afterEvents g (events_of d)
 unfolding afterEvents
 receive-events g [] = refl
 receive-events g (b ∷ s) = by_kind (eqb b 4) _ _ _ (within-events (length (b ∷ s)) g (b ∷ s))
@@ -47,4 +47,4 @@ pub after-happened : (g : State) (ds : List (List ℕ)) → (receive_all g ds).0
 unfolding receive_all afterEvents
 after-happened g [] = refl
 after-happened g (d ∷ ds) =
-    after-happened (receive g d).0 ds ∙ (ap (λ s. afterEvents s (happened ds)) (receive-events g d) ∙ sym (after_both g (eventsOf d) (happened ds)))
+    after-happened (receive g d).0 ds ∙ (ap (λ s. afterEvents s (happened ds)) (receive-events g d) ∙ sym (after_both g (events_of d) (happened ds)))

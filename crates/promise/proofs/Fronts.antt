@@ -2,20 +2,20 @@
 use Rattle.std.proofs.Common.{◌≡◌, ℕ, zero, suc, ◌+◌, ◌*◌, ◌<◌, ◌≤◌, Bool, true, false, cond, ◌&&◌, ltb, leb, ◌⊎◌, List, [], ◌∷◌, ◌++◌, length, take, drop, Some, Ok, Err, Result, sym, refl, ap, ◌∙◌, inl, inr, arith}
 use Rattle.certificates.proofs.Ranges.{ranged}
 use Rattle.certificates.specs.declared.Certificate.{Certificate}
-use Rattle.promise.specs.Requests.{takeHead, decided, answerHead, answer}
+use Rattle.promise.specs.Requests.{take_head, decided, answer_head, answer}
 use Rattle.promise.specs.States.{State}
 use Rattle.promise.specs.declared.answers.Answer.{Answer}
 use Rattle.promise.specs.declared.answers.Answer.TheVariants.{Refused}
 use Rattle.registry.proofs.Kept.{in-range-at}
-use Rattle.registry.specs.Keeping.{allInRange}
+use Rattle.registry.specs.Keeping.{all_in_range}
 use Rattle.registry.specs.Numbered.{never}
-use Rattle.sheets.specs.Checking.{judged, followed, housed, numbered, checkLine, Checked, going, checkLines, concluded}
+use Rattle.sheets.specs.Checking.{judged, followed, housed, numbered, line_checked, Checked, going, lines_checked, concluded}
 use Rattle.sheets.specs.Facts.{Fact}
-use Rattle.sheets.specs.Sheets.{certificateAt, start}
+use Rattle.sheets.specs.Sheets.{certificate_at, start}
 use Rattle.std.proofs.lemmas.List.{append-nil, length-append, length-drop, take-append-le, drop-append-le}
 use Rattle.std.proofs.lemmas.Bool.{le-leb, leb-true, ltb-true}
 use Rattle.std.specs.Int.Digits.{number_from_digits}
-use Rattle.wire.specs.Numbers.{Taken, takeNumber, and_then, takeNumbers}
+use Rattle.wire.specs.Numbers.{Taken, take_number, and_then, take_numbers}
 use Rattle.wire.specs.declared.faults.Fault.{Fault}
 use Rattle.wire.specs.declared.faults.Fault.TheVariants.{OutOfRange, TooManyLines, LineUnknown}
 
@@ -26,7 +26,7 @@ pub record ReadFront {A : Type 0} (read : List ℕ → Taken A) (p : List ℕ) (
   pub long : length p ≤ length left + most
   pub is : (more : List ℕ) → read (p ++ more) ≡ Some (value, left ++ more)
 
-number-front : (k : ℕ) (p : List ℕ) → k ≤ length p → ReadFront (takeNumber k) p k
+number-front : (k : ℕ) (p : List ℕ) → k ≤ length p → ReadFront (take_number k) p k
 number-front k p enough = record {
   value = number_from_digits 256 (take k p);
   left = drop k p;
@@ -36,8 +36,8 @@ number-front k p enough = record {
       rw (le-leb k (length (p ++ more)) there, take-append-le k p more enough, drop-append-le k p more enough);
 }
 
-numbers-front : (k : ℕ) (p : List ℕ) → 2 * k ≤ length p → ReadFront (takeNumbers k) p (2 * k)
-unfolding takeNumbers
+numbers-front : (k : ℕ) (p : List ℕ) → 2 * k ≤ length p → ReadFront (take_numbers k) p (2 * k)
+unfolding take_numbers
 numbers-front zero p enough = record { value = []; left = p; long = omega arith; is = λ more. refl }
 numbers-front (suc k) p enough =
     let first = number-front 2 p (omega arith) in
@@ -47,11 +47,11 @@ numbers-front (suc k) p enough =
       left = second.left;
       long = omega (arith, first.long, second.long);
       is = λ more.
-          ap (λ (t : Taken ℕ). and_then t λ n rest. and_then (takeNumbers k rest) λ numbers behind. Some (n ∷ numbers, behind)) (first.is more)
+          ap (λ (t : Taken ℕ). and_then t λ n rest. and_then (take_numbers k rest) λ numbers behind. Some (n ∷ numbers, behind)) (first.is more)
           ∙ ap (λ (t : Taken (List ℕ)). and_then t λ numbers behind. Some (first.value ∷ numbers, behind)) (second.is more);
     }
 
-head-front : (p : List ℕ) → 8 ≤ length p → ReadFront takeHead p 8
+head-front : (p : List ℕ) → 8 ≤ length p → ReadFront take_head p 8
 head-front p enough =
     let kind = number-front 1 p (omega arith) in
     let house = number-front 2 kind.left (omega (arith, kind.long)) in
@@ -64,31 +64,31 @@ head-front p enough =
       is = λ more. rw (kind.is more, house.is more, right.is more, lines.is more);
     }
 
-module _ (cs : List Certificate) (ranges : allInRange cs ≡ true) (day right : ℕ) where
+module _ (cs : List Certificate) (ranges : all_in_range cs ≡ true) (day right : ℕ) where
   -- what a line of the front gives, whatever follows: a fault, or a fact and what is left of the front
   abbrev LineFront : ℕ → List Fact → List ℕ → Type 0
   LineFront line facts p =
-      ((fault : Fault) × ((more : List ℕ) → checkLine cs day right line facts (p ++ more) ≡ Err fault))
-      ⊎ ((fact : Fact) × (left : List ℕ) × (length p ≤ length left + 14) × ((more : List ℕ) → checkLine cs day right line facts (p ++ more) ≡ Ok (fact, left ++ more)))
+      ((fault : Fault) × ((more : List ℕ) → line_checked cs day right line facts (p ++ more) ≡ Err fault))
+      ⊎ ((fact : Fact) × (left : List ℕ) × (length p ≤ length left + 14) × ((more : List ℕ) → line_checked cs day right line facts (p ++ more) ≡ Ok (fact, left ++ more)))
 
-  module _ (line : ℕ) (facts : List Fact) (p : List ℕ) (first : ReadFront (takeNumber 2) p 2) where
+  module _ (line : ℕ) (facts : List Fact) (p : List ℕ) (first : ReadFront (take_number 2) p 2) where
     abbrev named : Certificate
-    named = certificateAt cs first.value
+    named = certificate_at cs first.value
 
-    judged-front : ltb first.value (length cs) ≡ true → (second : ReadFront (takeNumbers named.subject.count) first.left (2 * named.subject.count)) →
+    judged-front : ltb first.value (length cs) ≡ true → (second : ReadFront (take_numbers named.subject.count) first.left (2 * named.subject.count)) →
         named.subject.count ≤ 6 → (r : Result Fact Fault) → judged line facts named second.value day right ≡ r → LineFront line facts p
     judged-front below second six r is = by-verdict r (λ more.
         ap (numbered cs day right line facts) (first.is more)
         ∙ rw below (ap (housed cs day right line facts first.value) (second.is more) ∙ ap (followed (second.left ++ more)) is))
       where
-        by-verdict : (v : Result Fact Fault) → ((more : List ℕ) → checkLine cs day right line facts (p ++ more) ≡ followed (second.left ++ more) v) → LineFront line facts p
+        by-verdict : (v : Result Fact Fault) → ((more : List ℕ) → line_checked cs day right line facts (p ++ more) ≡ followed (second.left ++ more) v) → LineFront line facts p
         by-verdict (Ok fact) gives = inr (fact, second.left, omega (arith, first.long, second.long), gives)
         by-verdict (Err fault) gives = inl (fault, gives)
 
     numbered-front : (t : Bool) → ltb first.value (length cs) ≡ t → 14 ≤ length p → LineFront line facts p
     numbered-front false past enough = inl (LineUnknown line, λ more. ap (numbered cs day right line facts) (first.is more) ∙ rw past)
     numbered-front true below enough =
-        let six = (ranged named (in-range-at cs first.value never ranges (ltb-true first.value (length cs) below))).few-names in
+        let six = (ranged named (in-range-at cs first.value never ranges (ltb-true first.value (length cs) below))).few_names in
         judged-front below (numbers-front named.subject.count first.left (omega (arith, first.long))) six _ refl
 
   -- a number of two bytes, and at most six houses of two bytes
@@ -96,24 +96,24 @@ module _ (cs : List Certificate) (ranges : allInRange cs ≡ true) (day right : 
   line-front line facts p enough = numbered-front line facts p (number-front 2 p (omega arith)) _ refl enough
 
 -- so many lines of a front that is longer than any such lines: what follows it changes nothing
-module _ (cs : List Certificate) (ranges : allInRange cs ≡ true) (day right house : ℕ) where
+module _ (cs : List Certificate) (ranges : all_in_range cs ≡ true) (day right house : ℕ) where
   abbrev ending : Checked → Result (Unit {0}) Fault
   ending done = concluded house done.0 done.1
 
   lines-front : (count line : ℕ) (facts : List Fact) (p : List ℕ) → 14 * count < length p → (more also : List ℕ) →
-      ending (checkLines cs day right count line facts (p ++ more)) ≡ ending (checkLines cs day right count line facts (p ++ also))
-  unfolding checkLines
+      ending (lines_checked cs day right count line facts (p ++ more)) ≡ ending (lines_checked cs day right count line facts (p ++ also))
+  unfolding lines_checked
   lines-front zero line facts [] long more also = let none : ⊥ = omega arith in absurd none
   lines-front zero line facts (b ∷ p) long more also = refl
   lines-front (suc count) line facts p long more also = go (lines-front count (suc line)) (line-front cs ranges day right line facts p (omega arith))
     where
       next : Fact → List ℕ → Checked
-      next fact rest = checkLines cs day right count (suc line) (fact ∷ facts) rest
+      next fact rest = lines_checked cs day right count (suc line) (fact ∷ facts) rest
 
       go : ((facts : List Fact) (p : List ℕ) → 14 * count < length p → (more also : List ℕ) →
-          ending (checkLines cs day right count (suc line) facts (p ++ more)) ≡ ending (checkLines cs day right count (suc line) facts (p ++ also))) →
+          ending (lines_checked cs day right count (suc line) facts (p ++ more)) ≡ ending (lines_checked cs day right count (suc line) facts (p ++ also))) →
           LineFront cs ranges day right line facts p →
-          ending (going facts next (checkLine cs day right line facts (p ++ more))) ≡ ending (going facts next (checkLine cs day right line facts (p ++ also)))
+          ending (going facts next (line_checked cs day right line facts (p ++ more))) ≡ ending (going facts next (line_checked cs day right line facts (p ++ also)))
       go behind (inl (fault, is)) = rw (is more, is also)
       go behind (inr (fact, left, less, is)) = rw (is more, is also) (behind (fact ∷ facts) left (omega (arith, less)) more also)
 
@@ -122,15 +122,15 @@ same_if true x y z same = same refl
 same_if false x y z same = refl
 
 -- 8 bytes of a head, and at most 1,024 times 1,024 lines of at most 14 bytes
-pub front-answered : (g : State) → length g.certificates ≤ 1024 → allInRange g.certificates ≡ true → (s more : List ℕ) → 14680072 < length s →
+pub front-answered : (g : State) → length g.certificates ≤ 1024 → all_in_range g.certificates ≡ true → (s more : List ℕ) → 14680072 < length s →
     answer g (s ++ more) ≡ answer g s
 front-answered g few ranges s more long =
     let cs = g.certificates in
     let head = head-front s (omega arith) in
     let h = head.value in
-    let same : answerHead g (Some (h, head.left ++ more)) ≡ answerHead g (Some (h, head.left ++ []))
+    let same : answer_head g (Some (h, head.left ++ more)) ≡ answer_head g (Some (h, head.left ++ []))
     = ap (λ (a : Answer). cond (leb h.house 1023 && leb h.right 63) a (Refused OutOfRange))
     (same_if (leb h.lines (length cs * 1024)) _ _ (Refused TooManyLines) (λ short.
     ap decided (lines-front cs ranges g.day h.right h.house h.lines 0 (start g.owner) head.left
     (omega (arith, leb-true h.lines (length cs * 1024) short, head.long)) more []))) in
-    ap (answerHead g) (head.is more) ∙ (same ∙ (ap (answerHead g) (sym (head.is [])) ∙ ap (answer g) (append-nil s)))
+    ap (answer_head g) (head.is more) ∙ (same ∙ (ap (answer_head g) (sym (head.is [])) ∙ ap (answer g) (append-nil s)))

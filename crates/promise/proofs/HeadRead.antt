@@ -1,7 +1,7 @@
 -- The head of a request is read exactly. Assumes nothing.
 use Rattle.std.proofs.Common.{◌≡◌, ℕ, ◌^◌, ◌<◌, List, ◌∷◌, ◌++◌, Some, sym, ap, ◌∙◌, append_assoc, arith}
 use Rattle.promise.specs.Promise.{Bytes}
-use Rattle.promise.specs.Requests.{Head, takeHead}
+use Rattle.promise.specs.Requests.{Head, take_head}
 use Rattle.sheets.proofs.LineRead.{bytes_rest}
 use Rattle.wire.proofs.Numerals.{number-part, byte-part}
 use Rattle.wire.proofs.Parts.{Part, both, turned}
@@ -20,7 +20,7 @@ headBytes v = v.0 ∷ (bytes 2 v.1.0 ++ (v.1.1.0 ∷ bytes 4 v.1.1.1))
 abbrev Fit : Values → Type 0
 Fit v = (v.0 < 256) × ((v.1.0 < 256 ^ 2) × ((v.1.1.0 < 256) × (v.1.1.1 < 256 ^ 4)))
 
-head-part : Part takeHead head_of headBytes Fit
+head-part : Part take_head head_of headBytes Fit
 head-part =
     both _ byte-part λ kind. both _ (number-part 2) λ house. both _ byte-part λ right.
     turned (λ lines. record { house = house; right = right; lines = lines }) (number-part 4)
@@ -30,17 +30,17 @@ abbrev whole : ℕ → Head → List ℕ → List ℕ
 whole kind h rest = kind ∷ (bytes 2 h.house ++ (h.right ∷ (bytes 4 h.lines ++ rest)))
 
 -- a head that was read stands in front as it is written
-pub head-written : (d : List ℕ) → Bytes d → (h : Head) (rest : List ℕ) → takeHead d ≡ Some (h, rest) → (kind : ℕ) × (d ≡ whole kind h rest)
+pub head-written : (d : List ℕ) → Bytes d → (h : Head) (rest : List ℕ) → take_head d ≡ Some (h, rest) → (kind : ℕ) × (d ≡ whole kind h rest)
 head-written d small h rest is =
     let (v, fit, same, w) = head-part.sound d small h rest is in
     (v.0, w ∙ (ap (λ t. v.0 ∷ t) (append_assoc (bytes 2 v.1.0) (v.1.1.0 ∷ bytes 4 v.1.1.1) rest) ∙ ap (λ head. whole v.0 head rest) (sym same)))
 
-pub lines-bytes : (d : List ℕ) → Bytes d → (h : Head) (rest : List ℕ) → takeHead d ≡ Some (h, rest) → Bytes rest
+pub lines-bytes : (d : List ℕ) → Bytes d → (h : Head) (rest : List ℕ) → take_head d ≡ Some (h, rest) → Bytes rest
 lines-bytes d small h rest is =
     let (v, fit, same, w) = head-part.sound d small h rest is in
     bytes_rest (headBytes v) rest (rw w at small)
 
 pub head_read : (house right n : ℕ) → house < 1024 → right < 64 → n < 2 ^ 32 → (rest : List ℕ) →
-    takeHead (4 ∷ (bytes 2 house ++ (right ∷ (bytes 4 n ++ rest)))) ≡ Some (record { house = house; right = right; lines = n }, rest)
+    take_head (4 ∷ (bytes 2 house ++ (right ∷ (bytes 4 n ++ rest)))) ≡ Some (record { house = house; right = right; lines = n }, rest)
 head_read house right n known small few rest =
     rw append_assoc at (head-part.complete (4, (house, (right, n))) (omega arith, (omega arith, (omega arith, omega arith))) rest)

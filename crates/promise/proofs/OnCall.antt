@@ -1,7 +1,7 @@
 -- The promise on the calls that take deliveries and answer requests. Assumes nothing.
 use Rattle.std.proofs.Common.{◌≡◌, ℕ, ◌<◌, List, [], ◌∷◌, ◌++◌, IfOk, Ok, Err, Result, sym, refl, ap, ◌∙◌, subst, MatchResult}
 use Rattle.promise.proofs.Promised.{main}
-use Rattle.promise.specs.Promise.{Bytes, AllLetIn, KeptPromise, KeptAnswer, EachLetIn, KeptAll, requestBytes}
+use Rattle.promise.specs.Promise.{Bytes, AllLetIn, KeptPromise, KeptAnswer, EachLetIn, KeptAll, request_bytes}
 use Rattle.promise.specs.Requests.{answer, receive, receive_all, run}
 use Rattle.promise.specs.States.{State}
 use Rattle.promise.specs.declared.answers.Answer.{Answer}
@@ -28,7 +28,7 @@ one-after g ds d = more-after g ds (d ∷ [])
 every-kept : (owner : ℕ) → owner < 1024 → (ds : List (List ℕ)) → All Bytes ds → (g : State) → g ≡ run owner ds → AllLetIn owner ds g
 every-kept owner known ds all g from house right small small-right may =
     let (lines, opens, few) = (main.0 owner known ds all).every house right small small-right may in
-    (lines, ap (λ (h : State). (receive h (requestBytes house right lines)).1) from ∙ opens, few)
+    (lines, ap (λ (h : State). (receive h (request_bytes house right lines)).1) from ∙ opens, few)
 
 pub promise-kept : (g : State) (d : List ℕ) (g' : State) (answers : List Answer) → g.owner < 1024 → Bytes d → (g', answers) ≡ receive g d → KeptPromise g d g' answers
 promise-kept g d g' answers known small is = record {

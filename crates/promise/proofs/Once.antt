@@ -1,7 +1,7 @@
 -- What holds of a gate after one event, in either case. Assumes nothing.
 use Rattle.std.proofs.Common.{ℕ, ◌+◌, ◌<◌, ◌≤◌, ltb, List, [], ◌∷◌, ◌++◌, length}
 use Rattle.certificates.specs.declared.Certificate.{Certificate}
-use Rattle.promise.specs.States.{State, Taken, revokeAt, take}
+use Rattle.promise.specs.States.{State, Taken, revoke_at, take}
 use Rattle.std.proofs.lemmas.Bool.{cond_both, ltb-true, ltb-false}
 use Rattle.wire.specs.declared.events.Event.TheVariants.{Issued, Revoked, DayPassed}
 
@@ -19,7 +19,7 @@ module _ (g : State) (P : State → Type 0) where
       let n = length g.certificates in
       cond_both (ltb n 1024) _ _ (λ (t : Taken). P t.0) (λ e. room (ltb-true n 1024 e)) (λ e. full (ltb-false n 1024 e))
 
-  pub once-revoked : (number : ℕ) → (number < length g.certificates → P (holding g (revokeAt number g.certificates))) →
+  pub once-revoked : (number : ℕ) → (number < length g.certificates → P (holding g (revoke_at number g.certificates))) →
       (length g.certificates ≤ number → P g) → P (take g (Revoked number)).0
   once-revoked number known unknown =
       let n = length g.certificates in

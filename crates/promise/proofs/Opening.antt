@@ -1,11 +1,11 @@
 -- A gate opens only to a request whose head is read and whose sheet is found to hold. Assumes nothing.
 use Rattle.std.proofs.Common.{◌≡◌, ℕ, ◌*◌, Bool, true, false, cond, ◌&&◌, eqb, leb, List, [], ◌∷◌, map, length, Some, None, Ok, Err, Result, refl}
 use Rattle.promise.specs.States.{State, deliver}
-use Rattle.promise.specs.Requests.{Head, takeHead, decided, answerHead, answer, receive}
+use Rattle.promise.specs.Requests.{Head, take_head, decided, answer_head, answer, receive}
 use Rattle.promise.specs.declared.answers.Answer.{Answer}
 use Rattle.promise.specs.declared.answers.Answer.TheVariants.{Open, Refused}
 use Rattle.sheets.proofs.Shown.{impossible}
-use Rattle.sheets.specs.Checking.{checkSheet}
+use Rattle.sheets.specs.Checking.{check_sheet}
 use Rattle.wire.specs.Numbers.{Taken}
 use Rattle.wire.specs.declared.faults.Fault.{Fault}
 use Rattle.wire.specs.declared.faults.Fault.TheVariants.{OutOfRange, TooManyLines}
@@ -14,7 +14,7 @@ use mathlib.Core.List.{Memᴰ}
 
 -- the sheet that follows the head is found to hold
 abbrev pub Found : State → Head → List ℕ → Type 0
-Found g h rest = (checkSheet g.certificates g.day h.right g.owner h.house h.lines rest).1 ≡ Ok tt
+Found g h rest = (check_sheet g.certificates g.day h.right g.owner h.house h.lines rest).1 ≡ Ok tt
 
 passed_on : (t : Bool) (a : Answer) (fault : Fault) → Open ≡ cond t a (Refused fault) → Open ≡ a
 passed_on true a fault e = e
@@ -24,7 +24,7 @@ decided-open : (r : Result (Unit {0}) Fault) → Open ≡ decided r → r ≡ Ok
 decided-open (Ok u) e = refl
 decided-open (Err fault) e = impossible (cc)
 
-open-found : (g : State) (t : Taken Head) → Open ≡ answerHead g t → (h : Head) × (rest : List ℕ) × (t ≡ Some (h, rest)) × Found g h rest
+open-found : (g : State) (t : Taken Head) → Open ≡ answer_head g t → (h : Head) × (rest : List ℕ) × (t ≡ Some (h, rest)) × Found g h rest
 open-found g None e = impossible (cc)
 open-found g (Some p) e =
     let h = p.0 in
@@ -37,6 +37,6 @@ asked-open : (t : Bool) (g later : State) (a : Answer) (faults : List Fault) →
 asked-open true g later a faults i = Memᴰ.eq_of_singleton i
 asked-open false g later a faults i = let (fault, j, e) = Memᴰ.of_map Refused faults i in impossible (cc)
 
-pub opened-found : (g : State) (d : List ℕ) → Memᴰ Open (receive g d).1 → (h : Head) × (rest : List ℕ) × (takeHead d ≡ Some (h, rest)) × Found g h rest
+pub opened-found : (g : State) (d : List ℕ) → Memᴰ Open (receive g d).1 → (h : Head) × (rest : List ℕ) × (take_head d ≡ Some (h, rest)) × Found g h rest
 opened-found g [] i = absurd (Memᴰ.not-nil i)
-opened-found g (b ∷ s) i = open-found g (takeHead (b ∷ s)) (asked-open (eqb b 4) g _ (answer g (b ∷ s)) (deliver g (b ∷ s)).1 i)
+opened-found g (b ∷ s) i = open-found g (take_head (b ∷ s)) (asked-open (eqb b 4) g _ (answer g (b ∷ s)) (deliver g (b ∷ s)).1 i)

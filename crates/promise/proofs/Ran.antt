@@ -3,11 +3,11 @@ use Rattle.std.proofs.Common.{◌≡◌, ℕ, ◌↔◌, List, length, sym, arit
 use Rattle.certificates.specs.Certificates.{WellFormed}
 use Rattle.certificates.specs.Meaning.{May}
 use Rattle.promise.proofs.Carried.{may-carries}
-use Rattle.promise.proofs.Counting.{owner-after, day-after, count-after, well-after}
+use Rattle.promise.proofs.Counting.{owner-after, day_after, count-after, well-after}
 use Rattle.promise.proofs.Eventful.{afterEvents, after-happened}
 use Rattle.promise.proofs.Readable.{happened-writable}
 use Rattle.promise.proofs.Standing.{valid-stand}
-use Rattle.promise.specs.States.{State, newGate}
+use Rattle.promise.specs.States.{State, fresh_gate}
 use Rattle.promise.specs.Happened.{happened, today, standing, came}
 use Rattle.promise.specs.Promise.{Bytes}
 use Rattle.promise.specs.Requests.{run}
@@ -24,11 +24,11 @@ pub record Ran (owner : ℕ) (ds : List (List ℕ)) (g : State) : Type 0 where
 pub ran : (owner : ℕ) (ds : List (List ℕ)) → All Bytes ds → Ran owner ds (run owner ds)
 ran owner ds small =
     let events = happened ds in
-    let new = newGate owner in
+    let new = fresh_gate owner in
     let cs = (afterEvents new events).certificates in
     rw (after-happened new ds) (record {
       same-owner = owner-after new events;
-      is-today = omega (arith, day-after new events (omega arith));
+      is-today = omega (arith, day_after new events (omega arith));
       all-came = omega (arith, count-after new events (omega arith));
       well = well-after new events (happened-writable ds small) tt;
       same-may = λ day right house. (

@@ -1,25 +1,25 @@
 -- All events that deliveries hold can be written: their certificates are well formed. Assumes nothing.
 use Rattle.std.proofs.Common.{ℕ, zero, suc, eqb, List, [], ◌∷◌, length, Ok, Err, refl, ap, inl, inr}
-use Rattle.promise.specs.Happened.{noted, read_on, eventsWithin, eventsOf, happened}
+use Rattle.promise.specs.Happened.{noted, read_on, events_within, events_of, happened}
 use Rattle.promise.specs.Promise.{Bytes}
 use Rattle.sheets.proofs.LineRead.{bytes_rest}
 use Rattle.std.proofs.ByRecursion.{All-append}
 use Rattle.std.proofs.lemmas.Bool.{cond_both}
 use Rattle.std.specs.List.{AllByRecursion as All}
 use Rattle.wire.proofs.Exact.{exactly}
-use Rattle.wire.specs.Exact.{Writable, Exactly, fieldsBytes}
-use Rattle.wire.specs.Format.{eventBytes}
-use Rattle.wire.specs.Reading.{Reading, readEvent}
+use Rattle.wire.specs.Exact.{Writable, Exactly, fields_bytes}
+use Rattle.wire.specs.Format.{bytes_of_event}
+use Rattle.wire.specs.Reading.{Reading, event_read}
 use Rattle.wire.specs.declared.events.Event.{Event}
 use Rattle.wire.specs.declared.faults.Fault.{Fault}
 
 module _ (s : List ℕ) where
   pub rest-bytes : (r : Reading) → Exactly s r → Bytes s → Bytes (read_on r)
-  rest-bytes (Ok p) exact small = bytes_rest (eventBytes p.0) p.1 (rw ((exact.reads p.0 p.1).0 refl).1 at small)
+  rest-bytes (Ok p) exact small = bytes_rest (bytes_of_event p.0) p.1 (rw ((exact.reads p.0 p.1).0 refl).1 at small)
   rest-bytes (Err e) exact small = elim (exact.stops e.0 e.1 refl) [
     | inl out ↦
         let (f, fits, faulty, is) = (exact.refuses e.1).0 (ap (λ (fault : Fault). Err (fault, e.1)) out) in
-        bytes_rest (1 ∷ fieldsBytes f) e.1 (rw is at small)
+        bytes_rest (1 ∷ fields_bytes f) e.1 (rw is at small)
     | inr stop ↦ rw stop.1 tt
   ]
 
@@ -27,19 +27,19 @@ module _ (s : List ℕ) where
   noted-writable (Ok p) exact events behind = (((exact.reads p.0 p.1).0 refl).0, behind)
   noted-writable (Err e) exact events behind = behind
 
-within-writable : (n : ℕ) (s : List ℕ) → Bytes s → All Writable (eventsWithin n s)
-unfolding eventsWithin
+within-writable : (n : ℕ) (s : List ℕ) → Bytes s → All Writable (events_within n s)
+unfolding events_within
 within-writable zero s small = tt
 within-writable (suc n) [] small = tt
 within-writable (suc n) (b ∷ s) small =
-    let r = readEvent (b ∷ s) in
+    let r = event_read (b ∷ s) in
     let exact = exactly (b ∷ s) small in
-    noted-writable (b ∷ s) r exact (eventsWithin n (read_on r)) (within-writable n (read_on r) (rest-bytes (b ∷ s) r exact small))
+    noted-writable (b ∷ s) r exact (events_within n (read_on r)) (within-writable n (read_on r) (rest-bytes (b ∷ s) r exact small))
 
-events-writable : (d : List ℕ) → Bytes d → All Writable (eventsOf d)
+events-writable : (d : List ℕ) → Bytes d → All Writable (events_of d)
 events-writable [] small = tt
 events-writable (b ∷ s) small = cond_both (eqb b 4) _ _ (All Writable) (λ request. tt) (λ events. within-writable (length (b ∷ s)) (b ∷ s) small)
 
 pub happened-writable : (ds : List (List ℕ)) → All Bytes ds → All Writable (happened ds)
 happened-writable [] small = tt
-happened-writable (d ∷ ds) small = All-append Writable (eventsOf d) (happened ds) (events-writable d small.0) (happened-writable ds small.1)
+happened-writable (d ∷ ds) small = All-append Writable (events_of d) (happened ds) (events-writable d small.0) (happened-writable ds small.1)

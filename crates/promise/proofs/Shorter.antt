@@ -2,14 +2,14 @@
 use Rattle.std.proofs.Common.{ℕ, ◌<◌, List, length, IfOk, Ok, Err, Result, refl, ap, inl, inr, arith, length-append, Bor}
 use Rattle.promise.specs.Happened.{read_on}
 use Rattle.wire.specs.Exact.{Exactly, Writable}
-use Rattle.wire.specs.Format.{eventBytes}
+use Rattle.wire.specs.Format.{bytes_of_event}
 use Rattle.wire.specs.Reading.{Reading, reading_of}
 use Rattle.wire.specs.declared.events.Event.{Event}
 use Rattle.wire.specs.declared.events.Event.TheVariants.{Issued, Revoked, DayPassed}
 use Rattle.wire.specs.declared.faults.Fault.{Fault}
 use Rattle.wire.specs.declared.reading.Refusal.{Refusal}
 
-some_bytes : (e : Event) → 0 < length (eventBytes e)
+some_bytes : (e : Event) → 0 < length (bytes_of_event e)
 some_bytes (Issued c) = omega arith
 some_bytes (Revoked n) = omega arith
 some_bytes DayPassed = omega arith

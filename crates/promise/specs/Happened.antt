@@ -2,7 +2,7 @@
 use Rattle.std.specs.Prelude.{ℕ, zero, suc, min, Bool, false, cond, ◌||◌, List, [], ◌∷◌, length, Ok, Err, ◌==◌, nat_lt}
 use Rattle.certificates.specs.declared.Certificate.{Certificate}
 use Rattle.std.specs.List.{flat_map}
-use Rattle.wire.specs.Reading.{Reading, readEvent}
+use Rattle.wire.specs.Reading.{Reading, event_read}
 use Rattle.wire.specs.declared.events.Event.{Event}
 use Rattle.wire.specs.declared.events.Event.TheVariants.{Issued, Revoked, DayPassed}
 
@@ -15,55 +15,55 @@ read_on (Ok p) = p.1
 read_on (Err e) = e.1
 
 -- the events that some bytes hold, at most n
-unfoldable pub eventsWithin : ℕ → List ℕ → List Event
-eventsWithin zero s = []
-eventsWithin (suc n) [] = []
-eventsWithin (suc n) (b ∷ s) = noted (readEvent (b ∷ s)) (eventsWithin n (read_on (readEvent (b ∷ s))))
+unfoldable pub events_within : ℕ → List ℕ → List Event
+events_within zero s = []
+events_within (suc n) [] = []
+events_within (suc n) (b ∷ s) = noted (event_read (b ∷ s)) (events_within n (read_on (event_read (b ∷ s))))
 
 -- a request holds no events; in any other delivery there are no more events than bytes
-abbrev pub eventsOf : List ℕ → List Event
-eventsOf [] = []
-eventsOf (b ∷ s) = cond (b == 4) [] (eventsWithin (length (b ∷ s)) (b ∷ s))
+abbrev pub events_of : List ℕ → List Event
+events_of [] = []
+events_of (b ∷ s) = cond (b == 4) [] (events_within (length (b ∷ s)) (b ∷ s))
 
 -- all events, in the order in which they came
 abbrev pub happened : List (List ℕ) → List Event
-happened ds = flat_map eventsOf ds
+happened ds = flat_map events_of ds
 
 -- how many days passed
-unfoldable pub daysIn : List Event → ℕ
-daysIn [] = 0
-daysIn (Issued c ∷ events) = daysIn events
-daysIn (Revoked n ∷ events) = daysIn events
-daysIn (DayPassed ∷ events) = suc (daysIn events)
+unfoldable pub days_in : List Event → ℕ
+days_in [] = 0
+days_in (Issued c ∷ events) = days_in events
+days_in (Revoked n ∷ events) = days_in events
+days_in (DayPassed ∷ events) = suc (days_in events)
 
 -- the day: days are counted to the last that 32 bits hold
 abbrev pub today : List Event → ℕ
-today events = min (daysIn events) 4294967295
+today events = min (days_in events) 4294967295
 
 -- some event takes the number back
-unfoldable pub takesBack : ℕ → List Event → Bool
-takesBack i [] = false
-takesBack i (Issued c ∷ events) = takesBack i events
-takesBack i (Revoked n ∷ events) = n == i || takesBack i events
-takesBack i (DayPassed ∷ events) = takesBack i events
+unfoldable pub takes_back : ℕ → List Event → Bool
+takes_back i [] = false
+takes_back i (Issued c ∷ events) = takes_back i events
+takes_back i (Revoked n ∷ events) = n == i || takes_back i events
+takes_back i (DayPassed ∷ events) = takes_back i events
 
 -- the certificates that came and were not taken back later; the next one gets the number i, and a 1,025th is none
-unfoldable pub standingFrom : ℕ → List Event → List Certificate
-standingFrom i [] = []
-standingFrom i (Issued c ∷ events) =
-    cond (nat_lt i 1024) (cond (takesBack i events) (standingFrom (suc i) events) (c ∷ standingFrom (suc i) events)) (standingFrom i events)
-standingFrom i (Revoked n ∷ events) = standingFrom i events
-standingFrom i (DayPassed ∷ events) = standingFrom i events
+unfoldable pub standing_from : ℕ → List Event → List Certificate
+standing_from i [] = []
+standing_from i (Issued c ∷ events) =
+    cond (nat_lt i 1024) (cond (takes_back i events) (standing_from (suc i) events) (c ∷ standing_from (suc i) events)) (standing_from i events)
+standing_from i (Revoked n ∷ events) = standing_from i events
+standing_from i (DayPassed ∷ events) = standing_from i events
 
 abbrev pub standing : List Event → List Certificate
-standing events = standingFrom 0 events
+standing events = standing_from 0 events
 
 -- how many certificates came, of at most 1,024
-unfoldable pub issuedIn : List Event → ℕ
-issuedIn [] = 0
-issuedIn (Issued c ∷ events) = suc (issuedIn events)
-issuedIn (Revoked n ∷ events) = issuedIn events
-issuedIn (DayPassed ∷ events) = issuedIn events
+unfoldable pub issued_in : List Event → ℕ
+issued_in [] = 0
+issued_in (Issued c ∷ events) = suc (issued_in events)
+issued_in (Revoked n ∷ events) = issued_in events
+issued_in (DayPassed ∷ events) = issued_in events
 
 abbrev pub came : List Event → ℕ
-came events = min (issuedIn events) 1024
+came events = min (issued_in events) 1024

@@ -1,13 +1,13 @@
 -- The promise of the whole: who is let in, after any deliveries. Assumes nothing.
 use Rattle.std.specs.Prelude.{◌≡◌, ℕ, ◌*◌, ◌<◌, ◌≤◌, List, [], ◌∷◌, ◌++◌, length, Some}
-use Rattle.certificates.specs.Laws.{Grows, From-owner}
+use Rattle.certificates.specs.Laws.{Grows, FromOwner}
 use Rattle.certificates.specs.Meaning.{May}
 use Rattle.promise.specs.States.{State}
 use Rattle.promise.specs.Happened.{happened, today, standing, came}
-use Rattle.promise.specs.Requests.{Head, takeHead, receive, run}
+use Rattle.promise.specs.Requests.{Head, take_head, receive, run}
 use Rattle.promise.specs.declared.answers.Answer.{Answer}
 use Rattle.promise.specs.declared.answers.Answer.TheVariants.{Open}
-use Rattle.sheets.specs.Bytes.{sheetBytes}
+use Rattle.sheets.specs.Bytes.{bytes_of_sheet}
 use Rattle.sheets.specs.Sheets.{Line}
 use Rattle.std.specs.List.{AllByRecursion as All}
 use Rattle.wire.specs.Numbers.{bytes}
@@ -18,8 +18,8 @@ abbrev pub Bytes : List ℕ → Type 0
 Bytes d = All (λ b. b < 256) d
 
 -- the bytes of a request with its sheet
-abbrev pub requestBytes : ℕ → ℕ → List Line → List ℕ
-requestBytes house right lines = 4 ∷ (bytes 2 house ++ (right ∷ (bytes 4 (length lines) ++ sheetBytes lines)))
+abbrev pub request_bytes : ℕ → ℕ → List Line → List ℕ
+request_bytes house right lines = 4 ∷ (bytes 2 house ++ (right ∷ (bytes 4 (length lines) ++ bytes_of_sheet lines)))
 
 -- the house may, by the certificates that came and were not taken back, on the day that it is after the deliveries
 abbrev pub MayAfter : List (List ℕ) → ℕ → ℕ → ℕ → Type 0
@@ -27,13 +27,13 @@ MayAfter ds right owner house = May (standing (happened ds)) (today (happened ds
 
 -- the delivery d is a request of a house that may, by what happened in the deliveries ds before it
 abbrev pub LetIn : ℕ → List (List ℕ) → List ℕ → Type 0
-LetIn owner ds d = (h : Head) × (rest : List ℕ) × (takeHead d ≡ Some (h, rest)) × MayAfter ds h.right owner h.house
+LetIn owner ds d = (h : Head) × (rest : List ℕ) × (take_head d ≡ Some (h, rest)) × MayAfter ds h.right owner h.house
 
 -- whoever may after the deliveries ds has a request with which the gate g lets them in, its sheet no longer than certificates times houses
 abbrev pub AllLetIn : ℕ → List (List ℕ) → State → Type 0
 AllLetIn owner ds g =
     (house right : ℕ) → house < 1024 → right < 64 → MayAfter ds right owner house →
-    (lines : List Line) × ((receive g (requestBytes house right lines)).1 ≡ Open ∷ []) × (length lines ≤ came (happened ds) * 1024)
+    (lines : List Line) × ((receive g (request_bytes house right lines)).1 ≡ Open ∷ []) × (length lines ≤ came (happened ds) * 1024)
 
 -- a gate of the owner after some deliveries: whoever is let in may, and whoever may is let in
 pub record Promised (owner : ℕ) (ds : List (List ℕ)) : Type 0 where
@@ -42,7 +42,7 @@ pub record Promised (owner : ℕ) (ds : List (List ℕ)) : Type 0 where
 
 -- together with: more certificates never take a right away, and an owner that issued nothing gave nothing to anybody else
 abbrev pub Main : Type 0
-Main = ((owner : ℕ) → owner < 1024 → (ds : List (List ℕ)) → All Bytes ds → Promised owner ds) × (Grows × From-owner)
+Main = ((owner : ℕ) → owner < 1024 → (ds : List (List ℕ)) → All Bytes ds → Promised owner ds) × (Grows × FromOwner)
 
 -- What a gate keeps when it takes a delivery d: whatever the deliveries ds were by which it came about,
 -- it is then the gate after one more, who is let in may, and whoever may had a request with which they are let in.

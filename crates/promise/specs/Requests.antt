@@ -1,19 +1,19 @@
 -- What a gate answers to a request, and to a delivery of either kind. Assumes nothing.
 use Rattle.std.specs.Prelude.{◌≡◌, ℕ, ◌*◌, ◌<◌, cond, ◌&&◌, List, [], ◌∷◌, ◌++◌, map, length, replicate, Some, None, Ok, Err, Result, ◌==◌, nat_le}
-use Rattle.promise.specs.States.{State, newGate, Delivered, deliver}
+use Rattle.promise.specs.States.{State, fresh_gate, Delivered, deliver}
 pub use Rattle.promise.specs.declared.heads.Head.{Head}
 use Rattle.promise.specs.declared.answers.Answer.{Answer}
 use Rattle.promise.specs.declared.answers.Answer.TheVariants.{Open, Refused}
-use Rattle.sheets.specs.Checking.{checkSheet}
-use Rattle.sheets.specs.Memory.{namesTable}
-use Rattle.wire.specs.Numbers.{Taken, takeNumber, and_then}
+use Rattle.sheets.specs.Checking.{check_sheet}
+use Rattle.sheets.specs.Memory.{names_table}
+use Rattle.wire.specs.Numbers.{Taken, take_number, and_then}
 use Rattle.wire.specs.declared.faults.Fault.{Fault}
 use Rattle.wire.specs.declared.faults.Fault.TheVariants.{Malformed, OutOfRange, TooManyLines}
 
 -- a request begins with its kind and its head; its lines follow
-abbrev pub takeHead : List ℕ → Taken Head
-takeHead s =
-    and_then (takeNumber 1 s) λ kind s₁. and_then (takeNumber 2 s₁) λ house s₂. and_then (takeNumber 1 s₂) λ right s₃. and_then (takeNumber 4 s₃) λ lines rest.
+abbrev pub take_head : List ℕ → Taken Head
+take_head s =
+    and_then (take_number 1 s) λ kind s₁. and_then (take_number 2 s₁) λ house s₂. and_then (take_number 1 s₂) λ right s₃. and_then (take_number 4 s₃) λ lines rest.
     Some (record { house = house; right = right; lines = lines }, rest)
 
 abbrev pub decided : Result (Unit {0}) Fault → Answer
@@ -21,17 +21,17 @@ decided (Ok u) = Open
 decided (Err fault) = Refused fault
 
 -- the head is looked at before the lines
-abbrev pub answerHead : State → Taken Head → Answer
-answerHead g None = Refused Malformed
-answerHead g (Some p) =
+abbrev pub answer_head : State → Taken Head → Answer
+answer_head g None = Refused Malformed
+answer_head g (Some p) =
     cond (nat_le p.0.house 1023 && nat_le p.0.right 63)
     (cond (nat_le p.0.lines (length g.certificates * 1024))
-    (decided (checkSheet g.certificates g.day p.0.right g.owner p.0.house p.0.lines p.1).1)
+    (decided (check_sheet g.certificates g.day p.0.right g.owner p.0.house p.0.lines p.1).1)
     (Refused TooManyLines))
     (Refused OutOfRange)
 
 abbrev pub answer : State → List ℕ → Answer
-answer g s = answerHead g (takeHead s)
+answer g s = answer_head g (take_head s)
 
 -- A front of more bytes than any request can have is answered as the whole is, whatever follows:
 -- a head has 8 bytes, and there are at most 1,024 times 1,024 lines of at most 14 bytes.
@@ -39,17 +39,17 @@ abbrev pub AnsweredByFront : State → List ℕ → Answer → Type 0
 AnsweredByFront g front answered = 14680072 < length front → (more : List ℕ) → answered ≡ answer g (front ++ more)
 
 -- what the check of a request leaves in lent memory; it is untouched where no line is looked at
-abbrev pub leftByHead : State → List ℕ → Taken Head → List ℕ
-leftByHead g memory None = memory
-leftByHead g memory (Some p) =
+abbrev pub left_by_head : State → List ℕ → Taken Head → List ℕ
+left_by_head g memory None = memory
+left_by_head g memory (Some p) =
     cond (nat_le p.0.house 1023 && nat_le p.0.right 63)
     (cond (nat_le p.0.lines (length g.certificates * 1024))
-    (namesTable g.certificates (checkSheet g.certificates g.day p.0.right g.owner p.0.house p.0.lines p.1).0 (replicate (length memory) 0))
+    (names_table g.certificates (check_sheet g.certificates g.day p.0.right g.owner p.0.house p.0.lines p.1).0 (replicate (length memory) 0))
     memory)
     memory
 
-abbrev pub leftBy : State → List ℕ → List ℕ → List ℕ
-leftBy g s memory = leftByHead g memory (takeHead s)
+abbrev pub left_by : State → List ℕ → List ℕ → List ℕ
+left_by g s memory = left_by_head g memory (take_head s)
 
 -- the answers of events, behind those that were given before
 abbrev pub told : List Answer → Delivered → State × List Answer
@@ -65,9 +65,9 @@ receive g (b ∷ s) =
     cond (b == 4) (g, answer g (b ∷ s) ∷ []) (told [] (deliver g (b ∷ s)))
 
 -- what a delivery leaves in lent memory; events leave it as it was
-abbrev pub leftByDelivery : State → List ℕ → List ℕ → List ℕ
-leftByDelivery g [] memory = memory
-leftByDelivery g (b ∷ s) memory = cond (b == 4) (leftBy g (b ∷ s) memory) memory
+abbrev pub left_by_delivery : State → List ℕ → List ℕ → List ℕ
+left_by_delivery g [] memory = memory
+left_by_delivery g (b ∷ s) memory = cond (b == 4) (left_by g (b ∷ s) memory) memory
 
 -- some deliveries, one after the other: the gate after them, and all answers in their order
 unfoldable pub receive_all : State → List (List ℕ) → State × List Answer
@@ -75,10 +75,10 @@ receive_all g [] = (g, [])
 receive_all g (d ∷ ds) = let others = receive_all (receive g d).0 ds in (others.0, (receive g d).1 ++ others.1)
 
 -- what they leave in lent memory
-unfoldable pub leftByAll : State → List (List ℕ) → List ℕ → List ℕ
-leftByAll g [] memory = memory
-leftByAll g (d ∷ ds) memory = leftByAll (receive g d).0 ds (leftByDelivery g d memory)
+unfoldable pub left_by_all : State → List (List ℕ) → List ℕ → List ℕ
+left_by_all g [] memory = memory
+left_by_all g (d ∷ ds) memory = left_by_all (receive g d).0 ds (left_by_delivery g d memory)
 
 -- a gate of the owner after some deliveries
 abbrev pub run : ℕ → List (List ℕ) → State
-run owner ds = (receive_all (newGate owner) ds).0
+run owner ds = (receive_all (fresh_gate owner) ds).0

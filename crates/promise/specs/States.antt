@@ -1,8 +1,8 @@
 -- What a gate holds and what it does on each event. Assumes nothing.
 use Rattle.std.specs.Prelude.{ℕ, zero, suc, ◌+◌, cond, List, [], ◌∷◌, ◌++◌, length, Some, None, Ok, Err, Option, nat_lt}
 use Rattle.certificates.specs.declared.Certificate.{Certificate}
-unfoldable pub use Rattle.registry.specs.Numbered.{revokeAt}
-use Rattle.wire.specs.Reading.{Reading, readEvent}
+unfoldable pub use Rattle.registry.specs.Numbered.{revoke_at}
+use Rattle.wire.specs.Reading.{Reading, event_read}
 use Rattle.wire.specs.declared.events.Event.{Event}
 use Rattle.wire.specs.declared.events.Event.TheVariants.{Issued, Revoked, DayPassed}
 use Rattle.wire.specs.declared.faults.Fault.{Fault}
@@ -14,8 +14,8 @@ pub record State : Type 0 where
   pub day : ℕ
   pub certificates : List Certificate
 
-abbrev pub newGate : ℕ → State
-newGate owner = record { owner = owner; day = 0; certificates = [] }
+abbrev pub fresh_gate : ℕ → State
+fresh_gate owner = record { owner = owner; day = 0; certificates = [] }
 
 -- what it holds afterwards, and the fault where the event is refused
 abbrev pub Taken : Type 0
@@ -32,12 +32,12 @@ issue g c =
 abbrev pub revoke : State → ℕ → Taken
 revoke g number =
     cond (nat_lt number (length g.certificates))
-    (record { owner = g.owner; day = g.day; certificates = revokeAt number g.certificates }, None)
+    (record { owner = g.owner; day = g.day; certificates = revoke_at number g.certificates }, None)
     (g, Some UnknownCertificate)
 
 -- days are counted to the last that 32 bits hold
-abbrev pub passDay : State → Taken
-passDay g =
+abbrev pub day_passed : State → Taken
+day_passed g =
     cond (nat_lt g.day 4294967295)
     (record { owner = g.owner; day = g.day + 1; certificates = g.certificates }, None)
     (g, Some LastDay)
@@ -45,12 +45,12 @@ passDay g =
 abbrev pub take : State → Event → Taken
 take g (Issued c) = issue g c
 take g (Revoked number) = revoke g number
-take g DayPassed = passDay g
+take g DayPassed = day_passed g
 
 -- the first event of some bytes: what the gate holds after it, the fault where it is refused, and what is read on
-abbrev pub takeFirst : State → Reading → Taken × List ℕ
-takeFirst g (Ok p) = (take g p.0, p.1)
-takeFirst g (Err e) = ((g, Some e.0), e.1)
+abbrev pub first_taken : State → Reading → Taken × List ℕ
+first_taken g (Ok p) = (take g p.0, p.1)
+first_taken g (Err e) = ((g, Some e.0), e.1)
 
 -- the gate after some events, and the faults of those that it refused, in their order
 abbrev pub Delivered : Type 0
@@ -61,13 +61,13 @@ noting None d = d
 noting (Some fault) d = (d.0, fault ∷ d.1)
 
 -- at most n events, one after the other
-unfoldable pub deliverWithin : ℕ → State → List ℕ → Delivered
-deliverWithin zero g s = (g, [])
-deliverWithin (suc n) g [] = (g, [])
-deliverWithin (suc n) g (b ∷ s) =
-    let first = takeFirst g (readEvent (b ∷ s)) in
-    noting first.0.1 (deliverWithin n first.0.0 first.1)
+unfoldable pub deliver_within : ℕ → State → List ℕ → Delivered
+deliver_within zero g s = (g, [])
+deliver_within (suc n) g [] = (g, [])
+deliver_within (suc n) g (b ∷ s) =
+    let first = first_taken g (event_read (b ∷ s)) in
+    noting first.0.1 (deliver_within n first.0.0 first.1)
 
 -- A delivery: each event has at least one byte, so there are no more events than bytes.
 abbrev pub deliver : State → List ℕ → Delivered
-deliver g s = deliverWithin (length s) g s
+deliver g s = deliver_within (length s) g s

@@ -1,5 +1,5 @@
 // Heads of requests: who asks, and for what.
-ghost use Rattle.promise.specs.Requests.{takeHead};
+ghost use Rattle.promise.specs.Requests.{take_head};
 ghost use Rattle.wire.specs.Numbers.{split};
 ghost use Rattle.std.specs.Prelude.{◌≡◌};
 
@@ -18,7 +18,7 @@ pub struct Head {
 
 // The head of a request, behind its kind, and the lines that follow it.
 pub fn read_head(bytes: &[u8]) -> Option<(Head, &[u8])>
-    ensures { split result ≡ takeHead bytes.now }
+    ensures { split result ≡ take_head bytes.now }
 {
     let Some((_, rest)) = read_u8(bytes) else {
         return None;

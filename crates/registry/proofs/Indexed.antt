@@ -6,8 +6,8 @@ use Rattle.registry.proofs.Lookup.{absent, rowIn-more, rowIn-inserted}
 use Rattle.registry.proofs.Order.{rising-inserted}
 use Rattle.registry.specs.Index.{is_of, Rising, Place, row_in, Agrees, Numbers}
 use Rattle.registry.specs.Names.{NewName, NoNewName}
-use Rattle.registry.specs.Numbered.{certificatesOf, revokeAt}
-use Rattle.registry.specs.Rows.{saysName, statesName, row_of}
+use Rattle.registry.specs.Numbered.{certificates_of, revoke_at}
+use Rattle.registry.specs.Rows.{says_name, states_name, row_of}
 use Rattle.registry.specs.declared.Entry.{Entry}
 use Rattle.registry.specs.declared.Registry.{Registry}
 use Rattle.std.proofs.ByRecursion.{All-append, All-drop, all_from_every, All-take, every_from_all}
@@ -21,7 +21,7 @@ pub record Indexes (es : List Entry) (cs : List Certificate) : Type 0 where
   pub agrees : Agrees es cs
   pub numbers : Numbers es cs
 
-pub indexed : (g : Registry) → Indexes (vec_items g.index) (certificatesOf g)
+pub indexed : (g : Registry) → Indexes (vec_items g.index) (certificates_of g)
 indexed g = record { rising = g.rising; agrees = g.agrees; numbers = g.numbers }
 
 pub none-indexed : Indexes [] []
@@ -53,7 +53,7 @@ module _ (es : List Entry) (cs : List Certificate) (so : Indexes es cs) where
     indexes-push known = record {
       rising = so.rising;
       agrees = λ house name.
-          rw (rows_more house name, rowOf-push cs c house name) (known-row (statesName house name c) (row_of cs house name) (length cs) (known house name));
+          rw (rows_more house name, rowOf-push cs c house name) (known-row (states_name house name c) (row_of cs house name) (length cs) (known house name));
       numbers = numbers_more;
     }
 
@@ -66,7 +66,7 @@ module _ (es : List Entry) (cs : List Certificate) (so : Indexes es cs) where
         record {
           rising = rising-inserted es so.rising place x at new;
           agrees = λ house name.
-              let says : statesName house name c ≡ is_of x house name = rw issued (ap (λ s. eqb c.issuer house && saysName name s) it.stated) in
+              let says : states_name house name c ≡ is_of x house name = rw issued (ap (λ s. eqb c.issuer house && says_name name s) it.stated) in
               rw (rowIn-inserted es place x house name (length (cs ++ (c ∷ []))) new, rows_more house name, rowOf-push cs c house name, says, next)
               (new_row (is_of x house name) (row_of cs house name) (length cs) (λ is.
               let same = and_parts (eqb x.house house) (eqb x.name name) is in
@@ -79,7 +79,7 @@ module _ (es : List Entry) (cs : List Certificate) (so : Indexes es cs) where
         }
 
   -- one that is taken back still states its name
-  pub indexes-revoked : (i : ℕ) → Indexes es (revokeAt i cs)
+  pub indexes-revoked : (i : ℕ) → Indexes es (revoke_at i cs)
   indexes-revoked i = record {
     rising = so.rising;
     agrees = λ house name. rw (length-revoked i cs, rowOf-revoked i cs house name) (so.agrees house name);

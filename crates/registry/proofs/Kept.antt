@@ -1,61 +1,61 @@
 -- What certificates by number keep when one comes or is taken back. Assumes nothing.
 use Rattle.std.proofs.Common.{◌≡◌, ℕ, zero, suc, ◌+◌, ◌<◌, ◌≤◌, true, cond, ◌&&◌, ltb, List, [], ◌∷◌, ◌++◌, length, get_or, set, refl, ap, arith}
-use Rattle.certificates.specs.Certificates.{in_range, revokedOf}
+use Rattle.certificates.specs.Certificates.{in_range, revoked_of}
 use Rattle.certificates.specs.declared.Certificate.{Certificate}
-use Rattle.registry.specs.Keeping.{allInRange}
-use Rattle.registry.specs.Numbered.{revokeAt}
-use Rattle.registry.specs.Rows.{statesName, row_of}
+use Rattle.registry.specs.Keeping.{all_in_range}
+use Rattle.registry.specs.Numbered.{revoke_at}
+use Rattle.registry.specs.Rows.{states_name, row_of}
 use Rattle.std.proofs.lemmas.Bool.{and_parts, and_from}
 use Rattle.std.proofs.lemmas.Bool.Decides.{nat_tests}
 
-pub in-range-at : (cs : List Certificate) (i : ℕ) (d : Certificate) → allInRange cs ≡ true → i < length cs → in_range (get_or cs i d) ≡ true
-unfolding allInRange
+pub in-range-at : (cs : List Certificate) (i : ℕ) (d : Certificate) → all_in_range cs ≡ true → i < length cs → in_range (get_or cs i d) ≡ true
+unfolding all_in_range
 in-range-at [] i d all within = let never : ⊥ = omega arith in absurd never
-in-range-at (c ∷ cs) zero d all within = (and_parts (in_range c) (allInRange cs) all).0
-in-range-at (c ∷ cs) (suc i) d all within = in-range-at cs i d (and_parts (in_range c) (allInRange cs) all).1 (omega arith)
+in-range-at (c ∷ cs) zero d all within = (and_parts (in_range c) (all_in_range cs) all).0
+in-range-at (c ∷ cs) (suc i) d all within = in-range-at cs i d (and_parts (in_range c) (all_in_range cs) all).1 (omega arith)
 
-pub in-range-push : (cs : List Certificate) (c : Certificate) → allInRange cs ≡ true → in_range c ≡ true → allInRange (cs ++ (c ∷ [])) ≡ true
-unfolding allInRange
+pub in-range-push : (cs : List Certificate) (c : Certificate) → all_in_range cs ≡ true → in_range c ≡ true → all_in_range (cs ++ (c ∷ [])) ≡ true
+unfolding all_in_range
 in-range-push [] c all here = and_from (in_range c) true here refl
 in-range-push (d ∷ cs) c all here =
-    let (this, those) = and_parts (in_range d) (allInRange cs) all in
-    and_from (in_range d) (allInRange (cs ++ (c ∷ []))) this (in-range-push cs c those here)
+    let (this, those) = and_parts (in_range d) (all_in_range cs) all in
+    and_from (in_range d) (all_in_range (cs ++ (c ∷ []))) this (in-range-push cs c those here)
 
 -- the first that states a name stays the first
 pub rowOf-push : (cs : List Certificate) (c : Certificate) (house name : ℕ) →
-    row_of (cs ++ (c ∷ [])) house name ≡ cond (ltb (row_of cs house name) (length cs)) (row_of cs house name) (cond (statesName house name c) (length cs) (length cs + 1))
+    row_of (cs ++ (c ∷ [])) house name ≡ cond (ltb (row_of cs house name) (length cs)) (row_of cs house name) (cond (states_name house name c) (length cs) (length cs + 1))
 unfolding row_of
 rowOf-push [] c house name = refl
 rowOf-push (d ∷ cs) c house name = let rest = rowOf-push cs c house name in grind (arith, nat_tests)
 
-pub in-range-revoked : (i : ℕ) (cs : List Certificate) → allInRange (revokeAt i cs) ≡ allInRange cs
-unfolding allInRange revokeAt
+pub in-range-revoked : (i : ℕ) (cs : List Certificate) → all_in_range (revoke_at i cs) ≡ all_in_range cs
+unfolding all_in_range revoke_at
 in-range-revoked i [] = refl
 in-range-revoked zero (c ∷ cs) = refl
 in-range-revoked (suc i) (c ∷ cs) = ap (λ b. in_range c && b) (in-range-revoked i cs)
 
-pub length-revoked : (i : ℕ) (cs : List Certificate) → length (revokeAt i cs) ≡ length cs
-unfolding revokeAt
+pub length-revoked : (i : ℕ) (cs : List Certificate) → length (revoke_at i cs) ≡ length cs
+unfolding revoke_at
 length-revoked i [] = refl
 length-revoked zero (c ∷ cs) = refl
 length-revoked (suc i) (c ∷ cs) = ap suc (length-revoked i cs)
 
-pub rowOf-revoked : (i : ℕ) (cs : List Certificate) (house name : ℕ) → row_of (revokeAt i cs) house name ≡ row_of cs house name
-unfolding row_of revokeAt
+pub rowOf-revoked : (i : ℕ) (cs : List Certificate) (house name : ℕ) → row_of (revoke_at i cs) house name ≡ row_of cs house name
+unfolding row_of revoke_at
 rowOf-revoked i [] house name = refl
 rowOf-revoked zero (c ∷ cs) house name = refl
-rowOf-revoked (suc i) (c ∷ cs) house name = ap (λ n. cond (statesName house name c) 0 (suc n)) (rowOf-revoked i cs house name)
+rowOf-revoked (suc i) (c ∷ cs) house name = ap (λ n. cond (states_name house name c) 0 (suc n)) (rowOf-revoked i cs house name)
 
 -- a number that none has takes nothing back
-pub revoke-past : (i : ℕ) (cs : List Certificate) → length cs ≤ i → revokeAt i cs ≡ cs
-unfolding revokeAt
+pub revoke-past : (i : ℕ) (cs : List Certificate) → length cs ≤ i → revoke_at i cs ≡ cs
+unfolding revoke_at
 revoke-past i [] past = refl
 revoke-past zero (c ∷ cs) past = let never : ⊥ = omega arith in absurd never
 revoke-past (suc i) (c ∷ cs) past = ap (λ (ds : List Certificate). c ∷ ds) (revoke-past i cs (omega arith))
 
 -- the code writes into place what the definition reaches by recursion
-pub revoke-in-place : (cs : List Certificate) (i : ℕ) (c r : Certificate) → i < length cs → c ≡ get_or cs i c → r ≡ revokedOf c → set cs i r ≡ revokeAt i cs
-unfolding revokeAt
+pub revoke-in-place : (cs : List Certificate) (i : ℕ) (c r : Certificate) → i < length cs → c ≡ get_or cs i c → r ≡ revoked_of c → set cs i r ≡ revoke_at i cs
+unfolding revoke_at
 revoke-in-place [] i c r within is back = let never : ⊥ = omega arith in absurd never
 revoke-in-place (d ∷ cs) zero c r within is back = rw (back, is)
 revoke-in-place (d ∷ cs) (suc i) c r within is back = ap (λ (ds : List Certificate). d ∷ ds) (revoke-in-place cs i c r (omega arith) is back)

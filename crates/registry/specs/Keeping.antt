@@ -4,6 +4,6 @@ use Rattle.certificates.specs.declared.Certificate.{Certificate}
 use Rattle.std.specs.Prelude.{Bool, true, ◌&&◌, List, [], ◌∷◌}
 
 -- each has the values that a certificate may have
-unfoldable pub allInRange : List Certificate → Bool
-allInRange [] = true
-allInRange (c ∷ cs) = in_range c && allInRange cs
+unfoldable pub all_in_range : List Certificate → Bool
+all_in_range [] = true
+all_in_range (c ∷ cs) = in_range c && all_in_range cs

@@ -2,7 +2,7 @@
 use Rattle.std.specs.Prelude.{◌≡◌, ℕ, ◌<◌, true, List, length}
 use Rattle.certificates.specs.declared.Certificate.{Certificate}
 use Rattle.certificates.specs.declared.Statement.TheVariants.{Name}
-use Rattle.registry.specs.Rows.{statesName, row_of}
+use Rattle.registry.specs.Rows.{states_name, row_of}
 
 -- the certificate states this name, and none did before
 pub record NewName (cs : List Certificate) (c : Certificate) (name : ℕ) : Type 0 where
@@ -11,4 +11,4 @@ pub record NewName (cs : List Certificate) (c : Certificate) (name : ℕ) : Type
 
 -- what it states has a row already
 abbrev pub NoNewName : List Certificate → Certificate → Type 0
-NoNewName cs c = (house name : ℕ) → statesName house name c ≡ true → row_of cs house name < length cs
+NoNewName cs c = (house name : ℕ) → states_name house name c ≡ true → row_of cs house name < length cs

@@ -4,15 +4,15 @@ use Rattle.certificates.specs.declared.Certificate.{Certificate}
 use Rattle.certificates.specs.declared.Statement.{Statement}
 use Rattle.certificates.specs.declared.Statement.TheVariants.{Name, Rights}
 
-abbrev pub saysName : ℕ → Statement → Bool
-saysName name (Name n) = n == name
-saysName name (Rights set delegable) = false
+abbrev pub says_name : ℕ → Statement → Bool
+says_name name (Name n) = n == name
+says_name name (Rights set delegable) = false
 
 -- the certificate says what this name of this house stands for
-abbrev pub statesName : ℕ → ℕ → Certificate → Bool
-statesName house name c = c.issuer == house && saysName name c.statement
+abbrev pub states_name : ℕ → ℕ → Certificate → Bool
+states_name house name c = c.issuer == house && says_name name c.statement
 
 -- the number of the first certificate that says so; where none does, the number of certificates
 unfoldable pub row_of : List Certificate → ℕ → ℕ → ℕ
 row_of [] house name = 0
-row_of (c ∷ cs) house name = cond (statesName house name c) 0 (suc (row_of cs house name))
+row_of (c ∷ cs) house name = cond (states_name house name c) 0 (suc (row_of cs house name))

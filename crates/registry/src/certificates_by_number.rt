@@ -1,7 +1,7 @@
 // Certificates come, are asked for by number, and are taken back.
 ghost use Rattle.std.specs.Prelude.{◌≡◌, ◌<◌, ◌≤◌, true, [], ◌∷◌, ◌++◌, length, is_ok, IfOk, if◌then◌else◌, vec_capacity, MatchOption};
 ghost use Rattle.certificates.specs.Certificates.{in_range};
-ghost use Rattle.registry.specs.Numbered.{certificatesOf, certificateAt, issued, revoked, revokeAt};
+ghost use Rattle.registry.specs.Numbered.{certificates_of, certificate_at, issued, revoked, revoke_at};
 
 use crate::{Entry, MOST_CERTIFICATES, Registry};
 use certificates::Certificate;
@@ -11,7 +11,7 @@ use wire::faults::Fault;
 impl Registry {
     // No certificates yet, and room for all that may come.
     pub fn new(heap: Global) -> Result<Registry, AllocError>
-        ensures { IfOk result (λ g. certificatesOf g ≡ []) }
+        ensures { IfOk result (λ g. certificates_of g ≡ []) }
     {
         let certificates = Vec::with_capacity(heap, MOST_CERTIFICATES)?;
         let index = Vec::with_capacity(heap, MOST_CERTIFICATES)?;
@@ -23,7 +23,7 @@ impl Registry {
         requires no_certificates { certificates.items ≡ [] }
         requires no_names { index.items ≡ [] }
         requires room { (1024 ≤ vec_capacity certificates) × (1024 ≤ vec_capacity index) }
-        ensures { certificatesOf result ≡ [] }
+        ensures { certificates_of result ≡ [] }
     {
         Registry {
             certificates,
@@ -33,7 +33,7 @@ impl Registry {
 
     // How many certificates came.
     pub fn len(&self) -> usize
-        ensures value { result ≡ length (certificatesOf self.now) }
+        ensures value { result ≡ length (certificates_of self.now) }
         ensures few { result ≤ 1024 }
     {
         self.certificates.len()
@@ -41,7 +41,7 @@ impl Registry {
 
     // The certificate of a number.
     pub fn get(&self, number: u16) -> Option<Certificate>
-        ensures { MatchOption result (length (certificatesOf self.now) ≤ number) (λ c. (number < length (certificatesOf self.now)) × (c ≡ certificateAt (certificatesOf self.now) number) × (in_range c ≡ true)) }
+        ensures { MatchOption result (length (certificates_of self.now) ≤ number) (λ c. (number < length (certificates_of self.now)) × (c ≡ certificate_at (certificates_of self.now) number) × (in_range c ≡ true)) }
     {
         let place = usize::from(number);
         if place < self.certificates.len() {
@@ -53,8 +53,8 @@ impl Registry {
 
     // The certificate at a place.
     fn at(&self, place: usize) -> Certificate
-        requires { place < length (certificatesOf self.now) }
-        ensures value { result ≡ certificateAt (certificatesOf self.now) place }
+        requires { place < length (certificates_of self.now) }
+        ensures value { result ≡ certificate_at (certificates_of self.now) place }
         ensures sound { in_range result ≡ true }
     {
         self.certificates[place]
@@ -62,8 +62,8 @@ impl Registry {
 
     // A certificate comes and gets the next number, or is refused.
     pub fn issue(&mut self, certificate: Certificate) -> Result<(), Fault>
-        ensures value { result ≡ issued (certificatesOf self.old) certificate }
-        ensures after { certificatesOf self.new ≡ (if is_ok result then certificatesOf self.old ++ certificate ∷ [] else certificatesOf self.old) }
+        ensures value { result ≡ issued (certificates_of self.old) certificate }
+        ensures after { certificates_of self.new ≡ (if is_ok result then certificates_of self.old ++ certificate ∷ [] else certificates_of self.old) }
     {
         if !certificate.in_range() {
             return Err(Fault::OutOfRange);
@@ -80,8 +80,8 @@ impl Registry {
 
     // The certificate of a number is taken back.
     pub fn revoke(&mut self, number: u16) -> Result<(), Fault>
-        ensures value { result ≡ revoked (certificatesOf self.old) number }
-        ensures after { certificatesOf self.new ≡ revokeAt number (certificatesOf self.old) }
+        ensures value { result ≡ revoked (certificates_of self.old) number }
+        ensures after { certificates_of self.new ≡ revoke_at number (certificates_of self.old) }
     {
         let place = usize::from(number);
         if place >= self.certificates.len() {
@@ -93,8 +93,8 @@ impl Registry {
 
     // The certificate at a place is valid on no day from then on.
     fn take_back(&mut self, place: usize)
-        requires { place < length (certificatesOf self.old) }
-        ensures { certificatesOf self.new ≡ revokeAt place (certificatesOf self.old) }
+        requires { place < length (certificates_of self.old) }
+        ensures { certificates_of self.new ≡ revoke_at place (certificates_of self.old) }
     {
         let revoked = self.certificates[place].revoked();
         self.certificates[place] = revoked;

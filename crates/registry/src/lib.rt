@@ -3,7 +3,7 @@
 
 ghost use Rattle.std.specs.Prelude.{◌≡◌, ◌≤◌, true, vec_len, vec_capacity};
 ghost use Rattle.registry.specs.Index.{Rising, Agrees, Numbers};
-ghost use Rattle.registry.specs.Keeping.{allInRange};
+ghost use Rattle.registry.specs.Keeping.{all_in_range};
 
 use certificates::Certificate;
 
@@ -28,7 +28,7 @@ pub struct Registry {
     certificates: Vec<Certificate>,
     // rising by house and name, no two alike
     index: Vec<Entry>,
-    ghost sound: { allInRange certificates.items ≡ true },
+    ghost sound: { all_in_range certificates.items ≡ true },
     ghost few: { vec_len certificates ≤ 1024 },
     ghost room: { 1024 ≤ vec_capacity certificates },
     ghost rising: { Rising index.items },

@@ -1,7 +1,7 @@
 // The row of a house's name, found by halving the sorted index.
 ghost use Rattle.std.specs.Prelude.{◌≡◌, ◌<◌, length, MatchOption};
 ghost use Rattle.registry.specs.Index.{before, is_of, Place};
-ghost use Rattle.registry.specs.Numbered.{certificatesOf};
+ghost use Rattle.registry.specs.Numbered.{certificates_of};
 ghost use Rattle.registry.specs.Rows.{row_of};
 
 use crate::{Entry, Registry};
@@ -25,7 +25,7 @@ impl Entry {
 impl Registry {
     // The row of a house's name, if some certificate states it.
     pub fn row(&self, house: u16, name: u16) -> Option<u16>
-        ensures { MatchOption result (row_of (certificatesOf self.now) house name ≡ length (certificatesOf self.now)) (λ x. (x ≡ row_of (certificatesOf self.now) house name) × (x < length (certificatesOf self.now))) }
+        ensures { MatchOption result (row_of (certificates_of self.now) house name ≡ length (certificates_of self.now)) (λ x. (x ≡ row_of (certificates_of self.now) house name) × (x < length (certificates_of self.now))) }
     {
         match self.find(house, name) {
             Some(entry) => Some(entry.row),
@@ -35,7 +35,7 @@ impl Registry {
 
     // The entry of a house's name, if some certificate states it.
     fn find(&self, house: u16, name: u16) -> Option<Entry>
-        ensures { MatchOption result (row_of (certificatesOf self.now) house name ≡ length (certificatesOf self.now)) (λ x. (x.row ≡ row_of (certificatesOf self.now) house name) × (x.row < length (certificatesOf self.now))) }
+        ensures { MatchOption result (row_of (certificates_of self.now) house name ≡ length (certificates_of self.now)) (λ x. (x.row ≡ row_of (certificates_of self.now) house name) × (x.row < length (certificates_of self.now))) }
     {
         let place = self.place(house, name);
         if place >= self.index.len() {

@@ -3,21 +3,21 @@ use Rattle.std.proofs.Common.{◌≡◌, ℕ, ◌+◌, ◌<◌, ◌≤◌, Bool,
 use Rattle.keeping.proofs.Picking.{picked_more, picked_all}
 use Rattle.keeping.specs.Marks.{picked}
 use Rattle.rounds.specs.Numbers.{line_at}
-use Rattle.sheet_bytes.specs.Writing.{markedBytes, bytes_at}
-use Rattle.sheets.specs.Bytes.{lineBytes, sheetBytes}
+use Rattle.sheet_bytes.specs.Writing.{bytes_of_marked, bytes_at}
+use Rattle.sheets.specs.Bytes.{line_bytes, bytes_of_sheet}
 use Rattle.sheets.specs.Sheets.{Line}
 
 module _ (marks : List Bool) (lines : List Line) where
   -- the bytes of the marked lines from a number on
-  pub bytes-more : (i : ℕ) → i < length lines → markedBytes (drop i marks) (drop i lines) ≡ bytes_at marks lines i ++ markedBytes (drop (i + 1) marks) (drop (i + 1) lines)
-  bytes-more i below = ap sheetBytes (picked_more marks lines i _ below) ∙ by-mark (get_or marks i false)
+  pub bytes-more : (i : ℕ) → i < length lines → bytes_of_marked (drop i marks) (drop i lines) ≡ bytes_at marks lines i ++ bytes_of_marked (drop (i + 1) marks) (drop (i + 1) lines)
+  bytes-more i below = ap bytes_of_sheet (picked_more marks lines i _ below) ∙ by-mark (get_or marks i false)
     where
       behind : List Line
       behind = picked (drop (i + 1) marks) (drop (i + 1) lines)
 
-      by-mark : (b : Bool) → sheetBytes (cond b (line_at lines i ∷ behind) behind) ≡ cond b (lineBytes (line_at lines i)) [] ++ sheetBytes behind
+      by-mark : (b : Bool) → bytes_of_sheet (cond b (line_at lines i ∷ behind) behind) ≡ cond b (line_bytes (line_at lines i)) [] ++ bytes_of_sheet behind
       by-mark true = refl
       by-mark false = refl
 
-  pub bytes-all : (i : ℕ) → length lines ≤ i → markedBytes (drop i marks) (drop i lines) ≡ []
-  bytes-all i past = ap sheetBytes (picked_all marks lines i past)
+  pub bytes-all : (i : ℕ) → length lines ≤ i → bytes_of_marked (drop i marks) (drop i lines) ≡ []
+  bytes-all i past = ap bytes_of_sheet (picked_all marks lines i past)

@@ -1,17 +1,17 @@
 -- How many bytes lines take. Assumes nothing.
 use Rattle.std.proofs.Common.{◌≡◌, ℕ, ◌+◌, ◌-◌, ◌*◌, ◌<◌, ◌≤◌, Bool, true, false, cond, List, [], ◌∷◌, length, get_or, take, drop, sym, refl, ap, ◌∙◌, arith}
 use Rattle.certificates.specs.declared.Certificate.{Certificate}
-use Rattle.registry.specs.Numbered.{never, certificateAt}
+use Rattle.registry.specs.Numbered.{never, certificate_at}
 use Rattle.keeping.proofs.Picking.{picked_more, picked_all}
 use Rattle.keeping.specs.Marks.{picked}
 use Rattle.sheet_bytes.proofs.Parts.{bytes-more, bytes-all}
-use Rattle.sheet_bytes.specs.Writing.{markedBytes, bytes_at}
+use Rattle.sheet_bytes.specs.Writing.{bytes_of_marked, bytes_at}
 use Rattle.sheets.specs.Sheets.{Line}
-use Rattle.sheets.specs.Bytes.{lineBytes}
+use Rattle.sheets.specs.Bytes.{line_bytes}
 use Rattle.std.proofs.lemmas.List.{get_or_past, get_or-map, length-append, length-take}
 use Rattle.std.proofs.lemmas.Bool.{cond-true}
 use Rattle.std.specs.List.{flat_map}
-use Rattle.turns.specs.Found.{line_of, linesFound}
+use Rattle.turns.specs.Found.{line_of, lines_found}
 use Rattle.turns.specs.declared.found.Found.{Found}
 use Rattle.wire.specs.Numbers.{bytes}
 use native.Mathlib.Nat.{sub-zero, min-le_left}
@@ -31,32 +31,32 @@ front-few count most numbers few = omega (arith, length-take (count - 0) numbers
 
 module _ (cs : List Certificate) where
   -- a certificate that is not there has no names
-  pub no_steps : (number : ℕ) → length cs ≤ number → 0 ≡ (certificateAt cs number).subject.count
+  pub no_steps : (number : ℕ) → length cs ≤ number → 0 ≡ (certificate_at cs number).subject.count
   no_steps number past = ap (λ (c : Certificate). c.subject.count) (sym (get_or_past cs number never past))
 
   -- as many of the steps count as the subject has names
-  pub front-steps : (f : Found) (count : ℕ) → count ≡ (certificateAt cs f.certificate).subject.count → take (count - 0) f.steps.numbers ≡ (line_of cs f).houses
+  pub front-steps : (f : Found) (count : ℕ) → count ≡ (certificate_at cs f.certificate).subject.count → take (count - 0) f.steps.numbers ≡ (line_of cs f).houses
   front-steps f count is = ap (λ n. take n f.steps.numbers) (sub-zero count ∙ is)
 
   -- a line's bytes, where these are its steps
-  pub line-length : (f : Found) (steps : List ℕ) → steps ≡ (line_of cs f).houses → 2 + 2 * length steps ≡ length (lineBytes (line_of cs f))
+  pub line-length : (f : Found) (steps : List ℕ) → steps ≡ (line_of cs f).houses → 2 + 2 * length steps ≡ length (line_bytes (line_of cs f))
   line-length f steps is =
       let houses = (line_of cs f).houses in
       omega (arith, ap length is, length-append (bytes 2 f.certificate) (flat_map (bytes 2) houses), two_bytes f.certificate, length-u16s houses)
 
   -- the line at a place that is marked
   pub bytes-marked : (found : List Found) (marks : List Bool) (i : ℕ) (d : Found) → i < length found → true ≡ get_or marks i false →
-      lineBytes (line_of cs (get_or found i d)) ≡ bytes_at marks (linesFound cs found) i
+      line_bytes (line_of cs (get_or found i d)) ≡ bytes_at marks (lines_found cs found) i
   bytes-marked found marks i d below marked =
-      ap lineBytes (sym (get_or-map (line_of cs) found i d _ below)) ∙ sym (cond-true (get_or marks i false) _ [] (sym marked))
+      ap line_bytes (sym (get_or-map (line_of cs) found i d _ below)) ∙ sym (cond-true (get_or marks i false) _ [] (sym marked))
 
   pub room-marked : (found : List Found) (marks : List Bool) (i : ℕ) (d : Found) → i < length found → true ≡ get_or marks i false → (at room : ℕ) →
-      at + length (bytes_at marks (linesFound cs found) i) ≤ room → at + length (lineBytes (line_of cs (get_or found i d))) ≤ room
+      at + length (bytes_at marks (lines_found cs found) i) ≤ room → at + length (line_bytes (line_of cs (get_or found i d))) ≤ room
   room-marked found marks i d below marked at room fits = omega (arith, ap length (bytes-marked found marks i d below marked))
 
 -- The bytes of the lines in front of a number are counted: with those of the others they make all.
 pub record Counted (marks : List Bool) (lines : List Line) (i count : ℕ) : Type 0 where
-  pub all : count + length (markedBytes (drop i marks) (drop i lines)) ≡ length (markedBytes marks lines)
+  pub all : count + length (bytes_of_marked (drop i marks) (drop i lines)) ≡ length (bytes_of_marked marks lines)
   pub few : count ≤ 14 * i
 
 module _ (marks : List Bool) (lines : List Line) where
@@ -65,11 +65,11 @@ module _ (marks : List Bool) (lines : List Line) where
 
   pub counted-more : (i count more : ℕ) → i < length lines → Counted marks lines i count → more ≡ length (bytes_at marks lines i) → more ≤ 14 → Counted marks lines (i + 1) (count + more)
   counted-more i count more below counted is small = record {
-    all = omega (arith, counted.all, ap length (bytes-more marks lines i below), length-append (bytes_at marks lines i) (markedBytes (drop (i + 1) marks) (drop (i + 1) lines)));
+    all = omega (arith, counted.all, ap length (bytes-more marks lines i below), length-append (bytes_at marks lines i) (bytes_of_marked (drop (i + 1) marks) (drop (i + 1) lines)));
     few = omega (arith, counted.few);
   }
 
-  pub counted-all : (i count : ℕ) → length lines ≤ i → Counted marks lines i count → count ≡ length (markedBytes marks lines)
+  pub counted-all : (i count : ℕ) → length lines ≤ i → Counted marks lines i count → count ≡ length (bytes_of_marked marks lines)
   counted-all i count past counted = omega (arith, counted.all, ap length (bytes-all marks lines i past))
 
 -- stands for a line where there is none

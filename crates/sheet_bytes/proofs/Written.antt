@@ -3,12 +3,12 @@ use Rattle.std.proofs.Common.{◌≡◌, ℕ, suc, ◌+◌, ◌*◌, ◌/◌, �
 use Rattle.certificates.specs.declared.Certificate.{Certificate}
 use Rattle.sheet_bytes.proofs.Parts.{bytes-more, bytes-all}
 use Rattle.sheet_bytes.proofs.Sizes.{bytes-marked}
-use Rattle.sheet_bytes.specs.Writing.{markedBytes, bytes_at}
-use Rattle.sheets.specs.Bytes.{lineBytes}
+use Rattle.sheet_bytes.specs.Writing.{bytes_of_marked, bytes_at}
+use Rattle.sheets.specs.Bytes.{line_bytes}
 use Rattle.sheets.specs.Sheets.{Line}
 use Rattle.std.proofs.lemmas.List.{at_drop_more, at_drop_all, length-append}
 use Rattle.std.specs.List.{flat_map}
-use Rattle.turns.specs.Found.{line_of, linesFound}
+use Rattle.turns.specs.Found.{line_of, lines_found}
 use Rattle.turns.specs.declared.found.Found.{Found}
 use Rattle.wire.specs.Numbers.{bytes}
 use lib.Seq.{sets, sets-eq}
@@ -39,7 +39,7 @@ numbers-all out numbers at i past = at_drop_all (λ ns. sets out at (flat_map (b
 -- a certificate's number, and then the steps
 pub line-written : (cs : List Certificate) (f : Found) (steps : List ℕ) → steps ≡ (line_of cs f).houses → (out numbered last : List ℕ) (at : ℕ) →
     numbered ≡ set (set out at (f.certificate / 256 % 256)) (at + 1) (f.certificate % 256) →
-    last ≡ sets numbered (at + 2) (flat_map (bytes 2) steps) → last ≡ sets out at (lineBytes (line_of cs f))
+    last ≡ sets numbered (at + 2) (flat_map (bytes 2) steps) → last ≡ sets out at (line_bytes (line_of cs f))
 line-written cs f steps is out numbered last at first then =
     then
     ∙ (ap₂ (λ o ns. sets o (at + 2) (flat_map (bytes 2) ns)) first is
@@ -47,10 +47,10 @@ line-written cs f steps is out numbered last at first then =
 
 -- the line at a place that is marked
 module _ (cs : List Certificate) (found : List Found) (marks : List Bool) (i : ℕ) (d : Found) (below : i < length found) (marked : true ≡ get_or marks i false) where
-  pub marked-place : (at behind : ℕ) → behind ≡ at + length (lineBytes (line_of cs (get_or found i d))) → behind ≡ at + length (bytes_at marks (linesFound cs found) i)
+  pub marked-place : (at behind : ℕ) → behind ≡ at + length (line_bytes (line_of cs (get_or found i d))) → behind ≡ at + length (bytes_at marks (lines_found cs found) i)
   marked-place at behind is = is ∙ ap (λ bytes. at + length bytes) (bytes-marked cs found marks i d below marked)
 
-  pub marked-written : (out last : List ℕ) (at : ℕ) → last ≡ sets out at (lineBytes (line_of cs (get_or found i d))) → last ≡ sets out at (bytes_at marks (linesFound cs found) i)
+  pub marked-written : (out last : List ℕ) (at : ℕ) → last ≡ sets out at (line_bytes (line_of cs (get_or found i d))) → last ≡ sets out at (bytes_at marks (lines_found cs found) i)
   marked-written out last at is = is ∙ ap (sets out at) (bytes-marked cs found marks i d below marked)
 
 -- what was written stands in front
@@ -59,8 +59,8 @@ in-front bytes out fits = sets-eq bytes out 0 (omega arith) ∙ ap (λ n. bytes 
 
 -- The lines in front of a number are written: the others at the place behind them give all.
 pub record Begun (marks : List Bool) (lines : List Line) (before out : List ℕ) (i at : ℕ) : Type 0 where
-  pub place : at + length (markedBytes (drop i marks) (drop i lines)) ≡ length (markedBytes marks lines)
-  pub rest : sets before 0 (markedBytes marks lines) ≡ sets out at (markedBytes (drop i marks) (drop i lines))
+  pub place : at + length (bytes_of_marked (drop i marks) (drop i lines)) ≡ length (bytes_of_marked marks lines)
+  pub rest : sets before 0 (bytes_of_marked marks lines) ≡ sets out at (bytes_of_marked (drop i marks) (drop i lines))
 
 module _ (marks : List Bool) (lines : List Line) (before : List ℕ) where
   pub begun-none : Begun marks lines before before 0 0
@@ -70,18 +70,18 @@ module _ (marks : List Bool) (lines : List Line) (before : List ℕ) where
       next ≡ sets out at (bytes_at marks lines i) → Begun marks lines before next (i + 1) at'
   begun_more out next i at at' below begun place_is next-is =
       let here = bytes_at marks lines i in
-      let behind = markedBytes (drop (i + 1) marks) (drop (i + 1) lines) in
+      let behind = bytes_of_marked (drop (i + 1) marks) (drop (i + 1) lines) in
       let more = bytes-more marks lines i below in
       record {
         place = omega (arith, begun.place, ap length more, length-append here behind);
         rest = begun.rest ∙ (ap (sets out at) more ∙ (sets-append here behind out at ∙ ap₂ (λ o p. sets o p behind) (sym next-is) (sym place_is)));
       }
 
-  pub begun-room : (out : List ℕ) (i at : ℕ) → i < length lines → Begun marks lines before out i at → at + length (bytes_at marks lines i) ≤ length (markedBytes marks lines)
+  pub begun-room : (out : List ℕ) (i at : ℕ) → i < length lines → Begun marks lines before out i at → at + length (bytes_at marks lines i) ≤ length (bytes_of_marked marks lines)
   begun-room out i at below begun =
-      omega (arith, begun.place, ap length (bytes-more marks lines i below), length-append (bytes_at marks lines i) (markedBytes (drop (i + 1) marks) (drop (i + 1) lines)))
+      omega (arith, begun.place, ap length (bytes-more marks lines i below), length-append (bytes_at marks lines i) (bytes_of_marked (drop (i + 1) marks) (drop (i + 1) lines)))
 
   -- all lines are written: they stand in front
-  pub begun_all : (out : List ℕ) (i at : ℕ) → length lines ≤ i → length (markedBytes marks lines) ≤ length before → Begun marks lines before out i at →
-      out ≡ markedBytes marks lines ++ drop (length (markedBytes marks lines)) before
-  begun_all out i at past fits begun = sym (begun.rest ∙ ap (sets out at) (bytes-all marks lines i past)) ∙ in-front (markedBytes marks lines) before fits
+  pub begun_all : (out : List ℕ) (i at : ℕ) → length lines ≤ i → length (bytes_of_marked marks lines) ≤ length before → Begun marks lines before out i at →
+      out ≡ bytes_of_marked marks lines ++ drop (length (bytes_of_marked marks lines)) before
+  begun_all out i at past fits begun = sym (begun.rest ∙ ap (sets out at) (bytes-all marks lines i past)) ∙ in-front (bytes_of_marked marks lines) before fits

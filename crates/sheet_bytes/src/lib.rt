@@ -3,12 +3,12 @@
 
 ghost use Rattle.std.specs.Prelude.{◌≡◌, ◌+◌, ◌*◌, ◌/◌, ◌%◌, ◌<◌, ◌≤◌, List, ◌++◌, length, drop, if◌then◌else◌, MatchResult, slice_set};
 ghost use Rattle.keeping.specs.Marks.{picked};
-ghost use Rattle.registry.specs.Numbered.{certificatesOf, certificateAt};
-ghost use Rattle.sheet_bytes.specs.Writing.{markedBytes, bytes_at, Wrote, Refused};
-ghost use Rattle.sheets.specs.Bytes.{lineBytes};
+ghost use Rattle.registry.specs.Numbered.{certificates_of, certificate_at};
+ghost use Rattle.sheet_bytes.specs.Writing.{bytes_of_marked, bytes_at, Wrote, Refused};
+ghost use Rattle.sheets.specs.Bytes.{line_bytes};
 ghost use Rattle.sheets.specs.Sheets.{Line};
 ghost use Rattle.std.specs.List.{flat_map};
-ghost use Rattle.turns.specs.Found.{line_of, linesFound};
+ghost use Rattle.turns.specs.Found.{line_of, lines_found};
 ghost use Rattle.wire.specs.Numbers.{bytes};
 ghost use Rattle.std.proofs.lemmas.List.Edits.{sets};
 
@@ -43,7 +43,7 @@ pub fn marked_lines(marks: &[bool]) -> usize
 
 // How many steps a line has: as many as its certificate's subject has names; none where there is no such certificate.
 fn count_steps(registry: &Registry, line: &Found) -> usize
-    ensures value { result ≡ (certificateAt (certificatesOf registry.now) line.now.certificate).subject.count }
+    ensures value { result ≡ (certificate_at (certificates_of registry.now) line.now.certificate).subject.count }
     ensures few { result ≤ 6 }
 {
     match registry.get(line.certificate) {
@@ -54,7 +54,7 @@ fn count_steps(registry: &Registry, line: &Found) -> usize
 
 // The houses reached by a line's steps.
 fn steps_of<'a>(registry: &Registry, line: &'a Found) -> &'a [u16]
-    ensures value { result.now ≡ (line_of (certificatesOf registry.now) line.now).houses }
+    ensures value { result.now ≡ (line_of (certificates_of registry.now) line.now).houses }
     ensures few { length result.now ≤ 6 }
 {
     &line.steps.numbers[0..count_steps(registry, line)]
@@ -70,7 +70,7 @@ fn bytes_of_steps(steps: usize) -> usize
 
 // How many bytes a line takes.
 fn bytes_of_line(registry: &Registry, line: &Found) -> usize
-    ensures value { result ≡ length (lineBytes (line_of (certificatesOf registry.now) line.now)) }
+    ensures value { result ≡ length (line_bytes (line_of (certificates_of registry.now) line.now)) }
     ensures few { result ≤ 14 }
 {
     bytes_of_steps(steps_of(registry, line).len())
@@ -79,7 +79,7 @@ fn bytes_of_line(registry: &Registry, line: &Found) -> usize
 // How many bytes the line at a place adds: none if it is not marked.
 fn bytes_at(registry: &Registry, found: &[Found], place: usize, marks: &[bool]) -> usize
     requires { place < length found.now }
-    ensures value { result ≡ length (bytes_at marks.now (linesFound (certificatesOf registry.now) found.now) place) }
+    ensures value { result ≡ length (bytes_at marks.now (lines_found (certificates_of registry.now) found.now) place) }
     ensures few { result ≤ 14 }
 {
     if is_marked(marks, place) {
@@ -92,7 +92,7 @@ fn bytes_at(registry: &Registry, found: &[Found], place: usize, marks: &[bool]) 
 // How many bytes the marked lines take.
 pub fn marked_bytes(registry: &Registry, found: &[Found], marks: &[bool]) -> usize
     ensures few { result ≤ 14 * length found.now }
-    ensures value { result ≡ length (markedBytes marks.now (linesFound (certificatesOf registry.now) found.now)) }
+    ensures value { result ≡ length (bytes_of_marked marks.now (lines_found (certificates_of registry.now) found.now)) }
 {
     let mut bytes = 0;
     for i in 0..found.len() {
@@ -123,9 +123,9 @@ fn write_u16s(out: &mut [u8], at: usize, numbers: &[u16])
 
 // Writes a line at a place: the place behind it.
 fn write_line(registry: &Registry, line: &Found, out: &mut [u8], at: usize) -> usize
-    requires { at + length (lineBytes (line_of (certificatesOf registry.now) line.now)) ≤ length out.old }
-    ensures place { result ≡ at + length (lineBytes (line_of (certificatesOf registry.now) line.now)) }
-    ensures after { out.new ≡ sets out.old at (lineBytes (line_of (certificatesOf registry.now) line.now)) }
+    requires { at + length (line_bytes (line_of (certificates_of registry.now) line.now)) ≤ length out.old }
+    ensures place { result ≡ at + length (line_bytes (line_of (certificates_of registry.now) line.now)) }
+    ensures after { out.new ≡ sets out.old at (line_bytes (line_of (certificates_of registry.now) line.now)) }
 {
     let steps = steps_of(registry, line);
     write_u16(out, at, line.certificate);
@@ -143,9 +143,9 @@ fn write_at(
     at: usize,
 ) -> usize
     requires within { place < length found.now }
-    requires fits { at + length (bytes_at marks.now (linesFound (certificatesOf registry.now) found.now) place) ≤ length out.old }
-    ensures place { result ≡ at + length (bytes_at marks.now (linesFound (certificatesOf registry.now) found.now) place) }
-    ensures after { out.new ≡ sets out.old at (bytes_at marks.now (linesFound (certificatesOf registry.now) found.now) place) }
+    requires fits { at + length (bytes_at marks.now (lines_found (certificates_of registry.now) found.now) place) ≤ length out.old }
+    ensures place { result ≡ at + length (bytes_at marks.now (lines_found (certificates_of registry.now) found.now) place) }
+    ensures after { out.new ≡ sets out.old at (bytes_at marks.now (lines_found (certificates_of registry.now) found.now) place) }
 {
     if is_marked(marks, place) {
         write_line(registry, &found[place], out, at)
@@ -156,8 +156,8 @@ fn write_at(
 
 // Writes the marked lines into the front of memory that is long enough.
 fn write_lines(registry: &Registry, found: &[Found], marks: &[bool], out: &mut [u8])
-    requires { length (markedBytes marks.now (linesFound (certificatesOf registry.now) found.now)) ≤ length out.old }
-    ensures { out.new ≡ markedBytes marks.now (linesFound (certificatesOf registry.now) found.now) ++ drop (length (markedBytes marks.now (linesFound (certificatesOf registry.now) found.now))) out.old }
+    requires { length (bytes_of_marked marks.now (lines_found (certificates_of registry.now) found.now)) ≤ length out.old }
+    ensures { out.new ≡ bytes_of_marked marks.now (lines_found (certificates_of registry.now) found.now) ++ drop (length (bytes_of_marked marks.now (lines_found (certificates_of registry.now) found.now))) out.old }
 {
     let mut at = 0;
     for i in 0..found.len() {
@@ -172,7 +172,7 @@ pub fn write_marked(
     marks: &[bool],
     out: &mut [u8],
 ) -> Result<usize, TooShort>
-    ensures { MatchResult result (Wrote (markedBytes marks.now (linesFound (certificatesOf registry.now) found.now)) out.old out.new) (λ short. Refused (markedBytes marks.now (linesFound (certificatesOf registry.now) found.now)) out.old out.new short.needed) }
+    ensures { MatchResult result (Wrote (bytes_of_marked marks.now (lines_found (certificates_of registry.now) found.now)) out.old out.new) (λ short. Refused (bytes_of_marked marks.now (lines_found (certificates_of registry.now) found.now)) out.old out.new short.needed) }
 {
     let needed = marked_bytes(registry, found, marks);
     if needed > out.len() {

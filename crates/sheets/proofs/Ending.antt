@@ -7,7 +7,7 @@ use Rattle.sheets.proofs.Next.{next-line}
 use Rattle.sheets.proofs.Slots.{Room, line-room}
 use Rattle.sheets.specs.Facts.{Fact}
 use Rattle.sheets.specs.Laws.{Covers}
-use Rattle.sheets.specs.Sheets.{Line, shows, entitled, holdsFrom}
+use Rattle.sheets.specs.Sheets.{Line, shows, entitled, holds_from}
 use mathlib.Core.List.{Memᴰ}
 
 -- lines from some facts to closed ones, at most so many
@@ -16,23 +16,23 @@ pub record Ending (cs : List Certificate) (day right : ℕ) (facts : List Fact) 
   pub end : List Fact
   pub kept : (f : Fact) → Memᴰ f facts → Memᴰ f end
   pub closed : Closed cs day right end
-  pub holds_as : (house : ℕ) → holdsFrom cs day right facts lines house ≡ entitled house end
+  pub holds_as : (house : ℕ) → holds_from cs day right facts lines house ≡ entitled house end
   pub few : length lines ≤ most
 
 module _ (cs : List Certificate) (day right : ℕ) where
   no_lines : (facts : List Fact) (most : ℕ) → Closed cs day right facts → Ending cs day right facts most
-  unfolding holdsFrom
+  unfolding holds_from
   no_lines facts most closed = record { lines = []; end = facts; kept = λ f i. i; closed = closed; holds_as = λ house. refl; few = omega arith }
 
   line-more : (facts : List Fact) (most : ℕ) (l : Line) → Good cs day right facts l →
       Ending cs day right (shows cs l ∷ facts) most → Ending cs day right facts (suc most)
-  unfolding holdsFrom
+  unfolding holds_from
   line-more facts most l g rest = record {
     lines = l ∷ rest.lines;
     end = rest.end;
     kept = λ f i. rest.kept f (Memᴰ.tail i);
     closed = rest.closed;
-    holds_as = λ house. ap (λ b. b && holdsFrom cs day right (shows cs l ∷ facts) rest.lines house) g ∙ rest.holds_as house;
+    holds_as = λ house. ap (λ b. b && holds_from cs day right (shows cs l ∷ facts) rest.lines house) g ∙ rest.holds_as house;
     few = omega arith;
   }
 

@@ -4,7 +4,7 @@ use Rattle.certificates.specs.Certificates.{names_of, WellFormed}
 use Rattle.certificates.specs.declared.Certificate.{Certificate}
 use Rattle.sheets.proofs.Shown.{number_of}
 use Rattle.sheets.proofs.Slots.{subjectHouses}
-use Rattle.sheets.specs.Sheets.{never, certificateAt}
+use Rattle.sheets.specs.Sheets.{never, certificate_at}
 use Rattle.std.proofs.ByRecursion.{All-get_or}
 use Rattle.std.proofs.lemmas.List.{length-take-le}
 use Rattle.std.specs.List.{AllByRecursion as All}
@@ -12,12 +12,12 @@ use mathlib.Core.List.Memᴰ
 use mathlib.Core.List.{Memᴰ}
 
 module _ (cs : List Certificate) (formed : All WellFormed cs) where
-  formed-at : (i : ℕ) → i < length cs → WellFormed (certificateAt cs i)
+  formed-at : (i : ℕ) → i < length cs → WellFormed (certificate_at cs i)
   formed-at i below = All-get_or WellFormed cs i never below formed
 
-  pub names_at : (i : ℕ) → i < length cs → length (names_of (certificateAt cs i).subject) ≡ (certificateAt cs i).subject.count
+  pub names_at : (i : ℕ) → i < length cs → length (names_of (certificate_at cs i).subject) ≡ (certificate_at cs i).subject.count
   names_at i below =
-      let c = certificateAt cs i in
+      let c = certificate_at cs i in
       let w = formed-at i below in
       length-take-le c.subject.count c.subject.names (omega arith)
 

@@ -7,7 +7,7 @@ use Rattle.certificates.specs.declared.Statement.{Statement}
 use Rattle.certificates.specs.declared.Statement.TheVariants.{Name, Rights}
 use Rattle.sheets.proofs.Shown.{impossible}
 use Rattle.sheets.proofs.Walks.{walk-shown, shown-walk}
-use Rattle.sheets.specs.Checking.{knownHouses, stepped, walked, allowed, judged}
+use Rattle.sheets.specs.Checking.{known_houses, stepped, walked, allowed, judged}
 use Rattle.sheets.specs.Facts.{Fact, HasRight, shown}
 use Rattle.sheets.specs.Sheets.{authorized, ripe, walks, reached, good, fact_of}
 use Rattle.std.proofs.lemmas.Bool.{and_parts, and_from}
@@ -44,16 +44,16 @@ module _ (line : ℕ) (facts : List Fact) (c : Certificate) (houses : List ℕ) 
       rw (among, has)
 
   pub judged-good : (day right : ℕ) (fact : Fact) → length houses ≡ length (names_of c.subject) → judged line facts c houses day right ≡ Ok fact →
-      (knownHouses houses ≡ true) × (good day right facts c houses ≡ true) × (fact ≡ shownBy c houses)
+      (known_houses houses ≡ true) × (good day right facts c houses ≡ true) × (fact ≡ shownBy c houses)
   judged-good day right fact same e =
-      let (known, e₁) = passed (knownHouses houses) _ (LineOutOfRange line) fact e in
+      let (known, e₁) = passed (known_houses houses) _ (LineOutOfRange line) fact e in
       let (v, e₂) = passed (valid day c) _ (NotValid line) fact e₁ in
       let (a, e₃) = allowed-ok right c.statement fact e₂ in
       let (none, is) = stepped-ok _ fact e₃ in
       let r = and_from (valid day c) (authorized right facts c.issuer c.statement) v a in
       (known, and_from (ripe day right facts c) _ r (shown-walk facts c.subject.house (names_of c.subject) houses same none), is)
 
-  pub good-judged : (day right : ℕ) → knownHouses houses ≡ true → good day right facts c houses ≡ true →
+  pub good-judged : (day right : ℕ) → known_houses houses ≡ true → good day right facts c houses ≡ true →
       judged line facts c houses day right ≡ Ok (shownBy c houses)
   good-judged day right known g =
       let (r, w) = and_parts (ripe day right facts c) (walks facts c.subject.house (names_of c.subject) houses) g in

@@ -9,11 +9,11 @@ use Rattle.certificates.specs.declared.Statement.TheVariants.{Name, Rights}
 use Rattle.facts.specs.Table.{bit_at}
 use Rattle.sheets.proofs.Remembering.{name-shown, right-shown}
 use Rattle.sheets.proofs.Shown.{impossible}
-use Rattle.sheets.specs.Checking.{knownHouses, unshown, stepped, walked, allowed, judged}
+use Rattle.sheets.specs.Checking.{known_houses, unshown, stepped, walked, allowed, judged}
 use Rattle.sheets.specs.Facts.{Fact, NameMeans, shown}
-use Rattle.sheets.specs.Judging.{permits, stepFault, afterwards, judgedBy}
+use Rattle.sheets.specs.Judging.{permits, step_fault, afterwards, judged_by}
 use Rattle.sheets.specs.Memory.{Remembers, remembered}
-use Rattle.sheets.specs.Reading.{housesOf, walkBy, walkedBy}
+use Rattle.sheets.specs.Reading.{houses_of, walk_by, walked_by}
 use Rattle.sheets.specs.Sheets.{reached, fact_of}
 use Rattle.sheets.specs.declared.reading.Line.{Line}
 use Rattle.std.proofs.lemmas.Bool.{and_parts, leb-true}
@@ -32,19 +32,19 @@ told-next i last (Some k) = ap (λ (n : ℕ). Err n) (omega arith)
 
 module _ (test : ℕ → ℕ → ℕ → Bool) (facts : List Fact) (same : (k n m : ℕ) → m < 1024 → shown (NameMeans k n m) facts ≡ test k n m) where
   -- a walk by a test that agrees with the facts
-  walk-told : (i house : ℕ) (names houses : List ℕ) → knownHouses houses ≡ true → length names ≡ length houses →
-      walkBy test i house names houses ≡ told i (reached house houses) (unshown facts house names houses)
-  unfolding walkBy unshown reached knownHouses
+  walk-told : (i house : ℕ) (names houses : List ℕ) → known_houses houses ≡ true → length names ≡ length houses →
+      walk_by test i house names houses ≡ told i (reached house houses) (unshown facts house names houses)
+  unfolding walk_by unshown reached known_houses
   walk-told i house [] [] known many = refl
   walk-told i house [] (h ∷ houses) known many = impossible (omega arith)
   walk-told i house (n ∷ names) [] known many = impossible (omega arith)
   walk-told i house (n ∷ names) (h ∷ houses) known many =
-      let (small, rest) = and_parts (leb h 1023) (knownHouses houses) known in
+      let (small, rest) = and_parts (leb h 1023) (known_houses houses) known in
       rw (same house n h (omega (arith, leb-true h 1023 small)))
       (by-step (test house n h) (walk-told (suc i) h names houses rest (omega arith)))
     where
-      by-step : (b : Bool) → walkBy test (suc i) h names houses ≡ told (suc i) (reached h houses) (unshown facts h names houses) →
-          cond b (walkBy test (suc i) h names houses) (Err i) ≡ told i (reached h houses) (cond b (option_map suc (unshown facts h names houses)) (Some 0))
+      by-step : (b : Bool) → walk_by test (suc i) h names houses ≡ told (suc i) (reached h houses) (unshown facts h names houses) →
+          cond b (walk_by test (suc i) h names houses) (Err i) ≡ told i (reached h houses) (cond b (option_map suc (unshown facts h names houses)) (Some 0))
       by-step true behind = behind ∙ told-next i (reached h houses) (unshown facts h names houses)
       by-step false behind = ap (λ (n : ℕ). Err n) (sym (add-zero i))
 
@@ -54,47 +54,47 @@ showing c (Ok last) = Ok (fact_of c last)
 showing c (Err fault) = Err fault
 
 module _ {cs : List Certificate} {facts : List Fact} {names rights : List ℕ} (r : Remembers cs facts names rights) (line day right : ℕ) (l : Line)
-    (sound : in_range l.certificate ≡ true) (many : length (names_of l.certificate.subject) ≡ length (housesOf l)) where
+    (sound : in_range l.certificate ≡ true) (many : length (names_of l.certificate.subject) ≡ length (houses_of l)) where
   abbrev c : Certificate
   c = l.certificate
 
   abbrev test : ℕ → ℕ → ℕ → Bool
   test = remembered cs names
 
-  steps-judged : (first : Option ℕ) → stepped line facts c (housesOf l) first ≡ showing c (stepFault line (told 0 (reached c.subject.house (housesOf l)) first))
+  steps-judged : (first : Option ℕ) → stepped line facts c (houses_of l) first ≡ showing c (step_fault line (told 0 (reached c.subject.house (houses_of l)) first))
   steps-judged None = refl
   steps-judged (Some k) = ap (λ (n : ℕ). Err (StepNotShown line n)) (sym (zero-add k))
 
-  walk-judged : knownHouses (housesOf l) ≡ true → walked line facts c (housesOf l) ≡ showing c (stepFault line (walkedBy test l))
+  walk-judged : known_houses (houses_of l) ≡ true → walked line facts c (houses_of l) ≡ showing c (step_fault line (walked_by test l))
   walk-judged known =
-      steps-judged (unshown facts c.subject.house (names_of c.subject) (housesOf l))
-      ∙ ap (λ w. showing c (stepFault line w))
-      (sym (walk-told test facts (λ k n m small. name-shown r k n m small) 0 c.subject.house (names_of c.subject) (housesOf l) known many))
+      steps-judged (unshown facts c.subject.house (names_of c.subject) (houses_of l))
+      ∙ ap (λ w. showing c (step_fault line w))
+      (sym (walk-told test facts (λ k n m small. name-shown r k n m small) 0 c.subject.house (names_of c.subject) (houses_of l) known many))
 
-  permit-judged : knownHouses (housesOf l) ≡ true → (s : Statement) →
-      allowed line facts c (housesOf l) right s ≡ showing c (afterwards (permits right (bit_at rights 0 c.issuer) line s) (stepFault line (walkedBy test l)))
+  permit-judged : known_houses (houses_of l) ≡ true → (s : Statement) →
+      allowed line facts c (houses_of l) right s ≡ showing c (afterwards (permits right (bit_at rights 0 c.issuer) line s) (step_fault line (walked_by test l)))
   permit-judged known (Name name) = walk-judged known
   permit-judged known (Rights set d) =
-      rw (right-shown r true c.issuer (ranged c sound).issuer-known, walk-judged known) (by_tests (member right set) (bit_at rights 0 c.issuer))
+      rw (right-shown r true c.issuer (ranged c sound).issuer_known, walk-judged known) (by_tests (member right set) (bit_at rights 0 c.issuer))
     where
       by_tests : (given able : Bool) →
-          cond given (cond able (showing c (stepFault line (walkedBy test l))) (Err (IssuerNotShown line))) (Err (NotGiven line))
-          ≡ showing c (afterwards (cond given (cond able (Ok tt) (Err (IssuerNotShown line))) (Err (NotGiven line))) (stepFault line (walkedBy test l)))
+          cond given (cond able (showing c (step_fault line (walked_by test l))) (Err (IssuerNotShown line))) (Err (NotGiven line))
+          ≡ showing c (afterwards (cond given (cond able (Ok tt) (Err (IssuerNotShown line))) (Err (NotGiven line))) (step_fault line (walked_by test l)))
       by_tests true true = refl
       by_tests true false = refl
       by_tests false able = refl
 
-  pub judged-by : judged line facts c (housesOf l) day right ≡ showing c (judgedBy test (bit_at rights 0 c.issuer) line day right l)
-  judged-by = by-known (knownHouses (housesOf l)) refl
+  pub judged-by : judged line facts c (houses_of l) day right ≡ showing c (judged_by test (bit_at rights 0 c.issuer) line day right l)
+  judged-by = by-known (known_houses (houses_of l)) refl
     where
-      by-valid : (v : Bool) → knownHouses (housesOf l) ≡ true →
-          cond v (allowed line facts c (housesOf l) right c.statement) (Err (NotValid line))
-          ≡ showing c (cond v (afterwards (permits right (bit_at rights 0 c.issuer) line c.statement) (stepFault line (walkedBy test l))) (Err (NotValid line)))
+      by-valid : (v : Bool) → known_houses (houses_of l) ≡ true →
+          cond v (allowed line facts c (houses_of l) right c.statement) (Err (NotValid line))
+          ≡ showing c (cond v (afterwards (permits right (bit_at rights 0 c.issuer) line c.statement) (step_fault line (walked_by test l))) (Err (NotValid line)))
       by-valid true known = permit-judged known c.statement
       by-valid false known = refl
 
-      by-known : (b : Bool) → knownHouses (housesOf l) ≡ b →
-          cond b (cond (valid day c) (allowed line facts c (housesOf l) right c.statement) (Err (NotValid line))) (Err (LineOutOfRange line))
-          ≡ showing c (cond b (cond (valid day c) (afterwards (permits right (bit_at rights 0 c.issuer) line c.statement) (stepFault line (walkedBy test l))) (Err (NotValid line))) (Err (LineOutOfRange line)))
+      by-known : (b : Bool) → known_houses (houses_of l) ≡ b →
+          cond b (cond (valid day c) (allowed line facts c (houses_of l) right c.statement) (Err (NotValid line))) (Err (LineOutOfRange line))
+          ≡ showing c (cond b (cond (valid day c) (afterwards (permits right (bit_at rights 0 c.issuer) line c.statement) (step_fault line (walked_by test l))) (Err (NotValid line))) (Err (LineOutOfRange line)))
       by-known true known = by-valid (valid day c) known
       by-known false known = refl

@@ -7,15 +7,15 @@ use Rattle.sheets.proofs.Judged.{passed, judged-good, good-judged}
 use Rattle.sheets.proofs.Lines.{Good}
 use Rattle.sheets.proofs.Shown.{impossible}
 use Rattle.sheets.proofs.Walks.{known-all}
-use Rattle.sheets.specs.Bytes.{lineBytes, Writable}
-use Rattle.sheets.specs.Checking.{judged, followed, housed, numbered, checkLine}
+use Rattle.sheets.specs.Bytes.{line_bytes, Writable}
+use Rattle.sheets.specs.Checking.{judged, followed, housed, numbered, line_checked}
 use Rattle.sheets.specs.Facts.{Fact}
-use Rattle.sheets.specs.Sheets.{Line, certificateAt, shows}
+use Rattle.sheets.specs.Sheets.{Line, certificate_at, shows}
 use Rattle.std.proofs.ByRecursion.{All-weaker}
 use Rattle.std.proofs.lemmas.Bool.{ltb-true, lt-ltb}
 use Rattle.std.specs.List.{flat_map, AllByRecursion as All}
 use Rattle.wire.proofs.Numerals.{number-part, names-part}
-use Rattle.wire.specs.Numbers.{bytes, Taken, takeNumber, takeNumbers}
+use Rattle.wire.specs.Numbers.{bytes, Taken, take_number, take_numbers}
 use Rattle.wire.specs.declared.faults.Fault.{Fault}
 use Rattle.wire.specs.declared.faults.Fault.TheVariants.{LineUnknown}
 
@@ -27,10 +27,10 @@ pub bytes_rest : (w rest : List ℕ) → Bytes (w ++ rest) → Bytes rest
 bytes_rest [] rest small = small
 bytes_rest (b ∷ w) rest small = bytes_rest w rest small.1
 
-number-taken : (s : List ℕ) → Bytes s → (n : ℕ) (rest : List ℕ) → takeNumber 2 s ≡ Some (n, rest) → s ≡ bytes 2 n ++ rest
+number-taken : (s : List ℕ) → Bytes s → (n : ℕ) (rest : List ℕ) → take_number 2 s ≡ Some (n, rest) → s ≡ bytes 2 n ++ rest
 number-taken s small n rest e = let (m, fits, is, w) = (number-part 2).sound s small n rest e in rw is w
 
-houses-taken : (k : ℕ) (s : List ℕ) → Bytes s → (houses rest : List ℕ) → takeNumbers k s ≡ Some (houses, rest) →
+houses-taken : (k : ℕ) (s : List ℕ) → Bytes s → (houses rest : List ℕ) → take_numbers k s ≡ Some (houses, rest) →
     (length houses ≡ k) × (s ≡ flat_map (bytes 2) houses ++ rest)
 houses-taken k s small houses rest e = let (same, fits, is, w) = (names-part k).sound s small houses rest e in rw is (fits.0, w)
 
@@ -39,9 +39,9 @@ module _ (cs : List Certificate) (day right : ℕ) where
   pub record GoodLine (facts : List Fact) (s : List ℕ) (fact : Fact) (rest : List ℕ) : Type 0 where
     pub line : Line
     pub writable : Writable cs line
-    pub is-good : Good cs day right facts line
+    pub is_good : Good cs day right facts line
     pub is-fact : fact ≡ shows cs line
-    pub is-bytes : s ≡ lineBytes line ++ rest
+    pub is-bytes : s ≡ line_bytes line ++ rest
 
   module _ (line : ℕ) (facts : List Fact) where
     followed-ok : (rest : List ℕ) (r : Result Fact Fault) (p : Fact × List ℕ) → followed rest r ≡ Ok p → (r ≡ Ok p.0) × (p.1 ≡ rest)
@@ -51,47 +51,47 @@ module _ (cs : List Certificate) (day right : ℕ) where
     followed-ok rest (Err fault) p e = impossible (cc)
 
     housed-ok : (number : ℕ) (t : Taken (List ℕ)) (p : Fact × List ℕ) → housed cs day right line facts number t ≡ Ok p →
-        (houses : List ℕ) × (t ≡ Some (houses, p.1)) × (judged line facts (certificateAt cs number) houses day right ≡ Ok p.0)
+        (houses : List ℕ) × (t ≡ Some (houses, p.1)) × (judged line facts (certificate_at cs number) houses day right ≡ Ok p.0)
     housed-ok number None p e = impossible (cc)
     housed-ok number (Some q) p e =
-        let (j, same) = followed-ok q.1 (judged line facts (certificateAt cs number) q.0 day right) p e in
+        let (j, same) = followed-ok q.1 (judged line facts (certificate_at cs number) q.0 day right) p e in
         (q.0, rw same, j)
 
     numbered-ok : (t : Taken ℕ) (p : Fact × List ℕ) → numbered cs day right line facts t ≡ Ok p →
         (q : ℕ × List ℕ) × (t ≡ Some q) × (q.0 < length cs)
-        × (housed cs day right line facts q.0 (takeNumbers (certificateAt cs q.0).subject.count q.1) ≡ Ok p)
+        × (housed cs day right line facts q.0 (take_numbers (certificate_at cs q.0).subject.count q.1) ≡ Ok p)
     numbered-ok None p e = impossible (cc)
     numbered-ok (Some q) p e =
         let (below, h) = passed (ltb q.0 (length cs)) _ (LineUnknown line) p e in
         (q, refl, ltb-true q.0 (length cs) below, h)
 
-    pub line_read : All WellFormed cs → (s : List ℕ) → Bytes s → (p : Fact × List ℕ) → checkLine cs day right line facts s ≡ Ok p →
+    pub line_read : All WellFormed cs → (s : List ℕ) → Bytes s → (p : Fact × List ℕ) → line_checked cs day right line facts s ≡ Ok p →
         GoodLine facts s p.0 p.1
     line_read formed s small p e =
-        let (q, e₁, below, h) = numbered-ok (takeNumber 2 s) p e in
+        let (q, e₁, below, h) = numbered-ok (take_number 2 s) p e in
         let w₁ = number-taken s small q.0 q.1 e₁ in
-        let c = certificateAt cs q.0 in
-        let (houses, e₂, j) = housed-ok q.0 (takeNumbers c.subject.count q.1) p h in
+        let c = certificate_at cs q.0 in
+        let (houses, e₂, j) = housed-ok q.0 (take_numbers c.subject.count q.1) p h in
         let (many, w₂) = houses-taken c.subject.count q.1 (bytes_rest (bytes 2 q.0) q.1 (rw w₁ at small)) houses p.1 e₂ in
         let (known, g, is) = judged-good line facts c houses day right p.0 (many ∙ sym (names_at cs formed q.0 below)) j in
         record {
           line = record { certificate = q.0; houses = houses };
           writable = record { number = below; many = many; known = known };
-          is-good = g;
+          is_good = g;
           is-fact = is;
           is-bytes = w₁ ∙ (ap (λ t. bytes 2 q.0 ++ t) w₂ ∙ sym (append_assoc (bytes 2 q.0) (flat_map (bytes 2) houses) p.1));
         }
 
     pub read-line : length cs ≤ 1024 → (l : Line) → Writable cs l → Good cs day right facts l → (rest : List ℕ) →
-        checkLine cs day right line facts (lineBytes l ++ rest) ≡ Ok (shows cs l, rest)
+        line_checked cs day right line facts (line_bytes l ++ rest) ≡ Ok (shows cs l, rest)
     read-line few l w g rest =
         let n = l.certificate in
-        let c = certificateAt cs n in
+        let c = certificate_at cs n in
         let behind = flat_map (bytes 2) l.houses ++ rest in
         let small : n < 256 ^ 2 = omega (arith, w.number) in
-        let first : takeNumber 2 (lineBytes l ++ rest) ≡ Some (n, behind) =
+        let first : take_number 2 (line_bytes l ++ rest) ≡ Some (n, behind) =
         rw (append_assoc (bytes 2 n) (flat_map (bytes 2) l.houses) rest) ((number-part 2).complete n small behind) in
         let fit : All (λ h. h < 2 ^ 16) l.houses = All-weaker (λ h. h ≤ 1023) (λ h. h < 2 ^ 16) (λ h known. omega arith) l.houses (known-all l.houses w.known) in
-        let second : takeNumbers c.subject.count behind ≡ Some (l.houses, rest) = (names-part c.subject.count).complete l.houses (w.many, fit) rest in
+        let second : take_numbers c.subject.count behind ≡ Some (l.houses, rest) = (names-part c.subject.count).complete l.houses (w.many, fit) rest in
         ap (numbered cs day right line facts) first ∙ (rw (lt-ltb n (length cs) w.number)
         (ap (housed cs day right line facts n) second ∙ ap (followed rest) (good-judged line facts c l.houses day right w.known g)))

@@ -2,21 +2,21 @@
 use Rattle.std.proofs.Common.{◌≡◌, ℕ, zero, suc, ◌<◌, ◌≤◌, ltb, List, [], ◌∷◌, length, take, Some, None, sym, refl, ap, ◌∙◌}
 use Rattle.certificates.specs.declared.Certificate.{Certificate}
 use Rattle.sheets.proofs.Shown.{impossible}
-use Rattle.sheets.specs.Checking.{judged, followed, housed, numbered, checkLine}
+use Rattle.sheets.specs.Checking.{judged, followed, housed, numbered, line_checked}
 use Rattle.sheets.specs.Facts.{Fact}
-use Rattle.sheets.specs.Sheets.{certificateAt}
+use Rattle.sheets.specs.Sheets.{certificate_at}
 use Rattle.std.proofs.lemmas.Bool.{cond-true, lt-ltb}
 use Rattle.wire.proofs.Formed.{places-front}
-use Rattle.wire.specs.Numbers.{Taken, takeNumber, takeNumbers, places, keepSix, and_then}
+use Rattle.wire.specs.Numbers.{Taken, take_number, take_numbers, places, keep_six, and_then}
 use Rattle.wire.specs.declared.numbers.Six.{Six}
 
 -- as many numbers are taken as were asked for
-taken-many : (k : ℕ) (s numbers rest : List ℕ) → takeNumbers k s ≡ Some (numbers, rest) → length numbers ≡ k
-unfolding takeNumbers
+taken-many : (k : ℕ) (s numbers rest : List ℕ) → take_numbers k s ≡ Some (numbers, rest) → length numbers ≡ k
+unfolding take_numbers
 taken-many zero s numbers rest e =
     let same : ◌≡◌ {A = List ℕ × List ℕ} ([], s) (numbers, rest) = cc in
     sym (ap (λ (p : List ℕ × List ℕ). length p.0) same)
-taken-many (suc k) s numbers rest e = first (takeNumber 2 s) (λ r ns behind. taken-many k r ns behind) e
+taken-many (suc k) s numbers rest e = first (take_number 2 s) (λ r ns behind. taken-many k r ns behind) e
   where
     later : (n : ℕ) (t : Taken (List ℕ)) → ((ns r : List ℕ) → t ≡ Some (ns, r) → length ns ≡ k) →
         and_then t (λ ns behind. Some (n ∷ ns, behind)) ≡ Some (numbers, rest) → length numbers ≡ suc k
@@ -25,23 +25,23 @@ taken-many (suc k) s numbers rest e = first (takeNumber 2 s) (λ r ns behind. ta
         let same : ◌≡◌ {A = List ℕ × List ℕ} (n ∷ p.0, p.1) (numbers, rest) = cc in
         sym (ap (λ (q : List ℕ × List ℕ). length q.0) same) ∙ ap suc (ih p.0 p.1 refl)
 
-    first : (t : Taken ℕ) → ((r ns behind : List ℕ) → takeNumbers k r ≡ Some (ns, behind) → length ns ≡ k) →
-        and_then t (λ n r. and_then (takeNumbers k r) λ ns behind. Some (n ∷ ns, behind)) ≡ Some (numbers, rest) → length numbers ≡ suc k
+    first : (t : Taken ℕ) → ((r ns behind : List ℕ) → take_numbers k r ≡ Some (ns, behind) → length ns ≡ k) →
+        and_then t (λ n r. and_then (take_numbers k r) λ ns behind. Some (n ∷ ns, behind)) ≡ Some (numbers, rest) → length numbers ≡ suc k
     first None ih e' = impossible (cc)
-    first (Some p) ih e' = later p.0 (takeNumbers k p.1) (ih p.1) e'
+    first (Some p) ih e' = later p.0 (take_numbers k p.1) (ih p.1) e'
 
 -- a line whose certificate and houses were read is still to be judged
 module _ (cs : List Certificate) (day right line : ℕ) (facts : List Fact) (s : List ℕ) (number : ℕ) (behind : List ℕ) (c : Certificate) (six : Six) (rest : List ℕ) where
-  pub line_taken : Some (number, behind) ≡ takeNumber 2 s → number < length cs → c ≡ certificateAt cs number → c.subject.count ≤ 6 →
-      Some (six, rest) ≡ and_then (takeNumbers c.subject.count behind) keepSix →
-      checkLine cs day right line facts s ≡ followed rest (judged line facts c (take c.subject.count six.numbers) day right)
+  pub line_taken : Some (number, behind) ≡ take_number 2 s → number < length cs → c ≡ certificate_at cs number → c.subject.count ≤ 6 →
+      Some (six, rest) ≡ and_then (take_numbers c.subject.count behind) keep_six →
+      line_checked cs day right line facts s ≡ followed rest (judged line facts c (take c.subject.count six.numbers) day right)
   line_taken read below is few houses =
       ap (numbered cs day right line facts) (sym read)
       ∙ (cond-true (ltb number (length cs)) _ _ (lt-ltb number (length cs) below)
-      ∙ (ap (λ (d : Certificate). housed cs day right line facts number (takeNumbers d.subject.count behind)) (sym is)
-      ∙ judging (takeNumbers c.subject.count behind) refl houses))
+      ∙ (ap (λ (d : Certificate). housed cs day right line facts number (take_numbers d.subject.count behind)) (sym is)
+      ∙ judging (take_numbers c.subject.count behind) refl houses))
     where
-      judging : (t : Taken (List ℕ)) → takeNumbers c.subject.count behind ≡ t → Some (six, rest) ≡ and_then t keepSix →
+      judging : (t : Taken (List ℕ)) → take_numbers c.subject.count behind ≡ t → Some (six, rest) ≡ and_then t keep_six →
           housed cs day right line facts number t ≡ followed rest (judged line facts c (take c.subject.count six.numbers) day right)
       judging None taken e = impossible (cc)
       judging (Some p) taken e =

@@ -1,7 +1,7 @@
 -- Lines one after the other: what is left to check gives the same as the whole. Assumes nothing.
 use Rattle.std.proofs.Common.{◌≡◌, ℕ, suc, ◌+◌, ◌-◌, ◌<◌, ◌≤◌, List, ◌∷◌, Ok, Err, refl, ap, ◌∙◌, add-one, arith}
 use Rattle.certificates.specs.declared.Certificate.{Certificate}
-use Rattle.sheets.specs.Checking.{going, checkLine, checkLines}
+use Rattle.sheets.specs.Checking.{going, line_checked, lines_checked}
 use Rattle.sheets.specs.Facts.{Fact}
 use Rattle.sheets.specs.Memory.{Remembers}
 use Rattle.sheets.specs.Passing.{LinePassed, LinesPassed}
@@ -13,20 +13,20 @@ module _ (cs : List Certificate) (q : Question) (count : ℕ) (s names rights : 
   pub record Progress (facts₀ : List Fact) (line : ℕ) (rest names' rights' : List ℕ) : Type 0 where
     pub facts : List Fact
     pub remembers : Remembers cs facts names' rights'
-    pub same : checkLines cs q.day q.right count 0 facts₀ s ≡ checkLines cs q.day q.right (count - line) line facts rest
+    pub same : lines_checked cs q.day q.right count 0 facts₀ s ≡ lines_checked cs q.day q.right (count - line) line facts rest
 
   -- the same, whatever facts the memory held at the start
   abbrev pub So-far : ℕ → List ℕ → List ℕ → List ℕ → Type 0
   So-far line rest names' rights' = (facts₀ : List Fact) → Remembers cs facts₀ names rights → Progress facts₀ line rest names' rights'
 
   pub none-checked : So-far 0 s names rights
-  none-checked facts₀ r = record { facts = facts₀; remembers = r; same = ap (λ n. checkLines cs q.day q.right n 0 facts₀ s) (omega arith) }
+  none-checked facts₀ r = record { facts = facts₀; remembers = r; same = ap (λ n. lines_checked cs q.day q.right n 0 facts₀ s) (omega arith) }
 
   module _ (line : ℕ) (rest names' rights' : List ℕ) (so : So-far line rest names' rights') (below : line < count) where
     -- the first of the lines that are left
-    first-left : (facts : List Fact) → checkLines cs q.day q.right (count - line) line facts rest
-        ≡ going facts (λ fact behind. checkLines cs q.day q.right (count - (line + 1)) (line + 1) (fact ∷ facts) behind) (checkLine cs q.day q.right line facts rest)
-    unfolding checkLines
+    first-left : (facts : List Fact) → lines_checked cs q.day q.right (count - line) line facts rest
+        ≡ going facts (λ fact behind. lines_checked cs q.day q.right (count - (line + 1)) (line + 1) (fact ∷ facts) behind) (line_checked cs q.day q.right line facts rest)
+    unfolding lines_checked
     first-left facts =
         let more : count - line ≡ suc (count - (line + 1)) = omega arith in
         rw (more, add-one line)
@@ -48,14 +48,14 @@ module _ (cs : List Certificate) (q : Question) (count : ℕ) (s names rights : 
     fault-found names'' rights'' fault passed facts₀ r =
         let before = so facts₀ r in
         let (is, kept-names, kept-rights) = passed before.facts before.remembers in
-        let end : checkLines cs q.day q.right count 0 facts₀ s ≡ (before.facts, Err fault) = before.same ∙ (first-left before.facts ∙ ap (going before.facts _) is) in
+        let end : lines_checked cs q.day q.right count 0 facts₀ s ≡ (before.facts, Err fault) = before.same ∙ (first-left before.facts ∙ ap (going before.facts _) is) in
         rw (end, kept-names, kept-rights) (refl, before.remembers)
 
   -- all lines are good
   pub all-checked : (line : ℕ) (rest names' rights' : List ℕ) → So-far line rest names' rights' → count ≤ line → LinesPassed cs q count s names rights names' rights' (Ok rest)
-  unfolding checkLines
+  unfolding lines_checked
   all-checked line rest names' rights' so past facts₀ r =
       let before = so facts₀ r in
       let none : count - line ≡ 0 = omega arith in
-      let end : checkLines cs q.day q.right count 0 facts₀ s ≡ (before.facts, Ok rest) = before.same ∙ rw none in
+      let end : lines_checked cs q.day q.right count 0 facts₀ s ≡ (before.facts, Ok rest) = before.same ∙ rw none in
       rw end (refl, before.remembers)

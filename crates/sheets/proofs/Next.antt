@@ -10,7 +10,7 @@ use Rattle.sheets.proofs.Shown.{fact-decided, number_of}
 use Rattle.sheets.proofs.Slots.{slots, slotFact, in-slots, Within, leads-within}
 use Rattle.sheets.specs.Facts.{Fact}
 use Rattle.sheets.specs.Laws.{Covers}
-use Rattle.sheets.specs.Sheets.{Line, certificateAt, ripe, fact_of, shows}
+use Rattle.sheets.specs.Sheets.{Line, certificate_at, ripe, fact_of, shows}
 use mathlib.Core.List.{Memᴰ}
 
 module _ (cs : List Certificate) (day right : ℕ) (facts : List Fact) where
@@ -21,12 +21,12 @@ module _ (cs : List Certificate) (day right : ℕ) (facts : List Fact) where
   -- the certificate is ripe, its subject leads to the house, and what it shows of the house is new
   abbrev Due : ℕ × ℕ → Type 0
   Due s =
-      (ripe day right facts (certificateAt cs s.0) ≡ true) ×
-      (SubjectLeads facts (certificateAt cs s.0) s.1 × (Memᴰ (slotFact cs s) facts → ⊥))
+      (ripe day right facts (certificate_at cs s.0) ≡ true) ×
+      (SubjectLeads facts (certificate_at cs s.0) s.1 × (Memᴰ (slotFact cs s) facts → ⊥))
 
   due-decided : (s : ℕ × ℕ) → Decision (Due s)
   due-decided s =
-      let c = certificateAt cs s.0 in
+      let c = certificate_at cs s.0 in
       both-decided (test-decided (ripe day right facts c))
       (both-decided (leads-decided facts c.subject.house (names_of c.subject) s.1) (not-decided (fact-decided (slotFact cs s) facts)))
 

@@ -6,11 +6,11 @@ use Rattle.sheets.proofs.Judged.{passed}
 use Rattle.sheets.proofs.LineRead.{Bytes, bytes_rest, GoodLine, line_read, read-line}
 use Rattle.sheets.proofs.Lines.{first_good}
 use Rattle.sheets.proofs.Shown.{impossible, true-from-T, T_from_true}
-use Rattle.sheets.specs.Bytes.{lineBytes, sheetBytes, Writable}
-use Rattle.sheets.specs.Checking.{checkLine, going, checkLines, concluded}
+use Rattle.sheets.specs.Bytes.{line_bytes, bytes_of_sheet, Writable}
+use Rattle.sheets.specs.Checking.{line_checked, going, lines_checked, concluded}
 use Rattle.sheets.specs.Facts.{Fact}
-use Rattle.sheets.specs.Laws.{Checks-exactly}
-use Rattle.sheets.specs.Sheets.{Line, certificateAt, good, shows, start, entitled, holdsFrom, holds}
+use Rattle.sheets.specs.Laws.{ChecksExactly}
+use Rattle.sheets.specs.Sheets.{Line, certificate_at, good, shows, start, entitled, holds_from, holds}
 use Rattle.std.proofs.lemmas.Bool.{and_from}
 use Rattle.std.specs.List.{AllByRecursion as All}
 use Rattle.wire.specs.declared.faults.Fault.{Fault}
@@ -24,53 +24,53 @@ module _ (cs : List Certificate) (formed : All WellFormed cs) (day right house :
   -- lines of these bytes that hold, from some facts on
   abbrev Holding : ℕ → List Fact → List ℕ → Type 0
   Holding count facts s =
-      (lines : List Line) × (length lines ≡ count) × All (Writable cs) lines × (s ≡ sheetBytes lines) × (holdsFrom cs day right facts lines house ≡ true)
+      (lines : List Line) × (length lines ≡ count) × All (Writable cs) lines × (s ≡ bytes_of_sheet lines) × (holds_from cs day right facts lines house ≡ true)
 
   no_lines : (facts : List Fact) (s : List ℕ) → Found house (facts, Ok s) → Holding zero facts s
-  unfolding holdsFrom
+  unfolding holds_from
   no_lines facts [] e = ([], refl, tt, refl, (passed (entitled house facts) (Ok tt) HouseNotShown tt e).0)
   no_lines facts (b ∷ s) e = impossible (cc)
 
   line-more : (count : ℕ) (facts : List Fact) (s : List ℕ) (fact : Fact) (rest : List ℕ) →
       GoodLine cs day right facts s fact rest → Holding count (fact ∷ facts) rest → Holding (suc count) facts s
-  unfolding holdsFrom
+  unfolding holds_from
   line-more count facts s fact rest g (lines, many, writable, is, held) =
       let l = g.line in (
         l ∷ lines,
         ap suc many,
         (g.writable, writable),
-        g.is-bytes ∙ ap (λ t. lineBytes l ++ t) is,
-        and_from (good day right facts (certificateAt cs l.certificate) l.houses) (holdsFrom cs day right (shows cs l ∷ facts) lines house)
-            g.is-good (rw g.is-fact at held),
+        g.is-bytes ∙ ap (λ t. line_bytes l ++ t) is,
+        and_from (good day right facts (certificate_at cs l.certificate) l.houses) (holds_from cs day right (shows cs l ∷ facts) lines house)
+            g.is_good (rw g.is-fact at held),
       )
 
   -- lines that were found to hold are there
-  lines-read : (count line : ℕ) (facts : List Fact) (s : List ℕ) → Bytes s → Found house (checkLines cs day right count line facts s) → Holding count facts s
-  unfolding checkLines
+  lines-read : (count line : ℕ) (facts : List Fact) (s : List ℕ) → Bytes s → Found house (lines_checked cs day right count line facts s) → Holding count facts s
+  unfolding lines_checked
   lines-read zero line facts s small e = no_lines facts s e
-  lines-read (suc count) line facts s small e = go (λ fact rest. lines-read count (suc line) (fact ∷ facts) rest) (checkLine cs day right line facts s) refl e
+  lines-read (suc count) line facts s small e = go (λ fact rest. lines-read count (suc line) (fact ∷ facts) rest) (line_checked cs day right line facts s) refl e
     where
       next : Fact → List ℕ → List Fact × Result (List ℕ) Fault
-      next fact rest = checkLines cs day right count (suc line) (fact ∷ facts) rest
+      next fact rest = lines_checked cs day right count (suc line) (fact ∷ facts) rest
 
       go : ((fact : Fact) (rest : List ℕ) → Bytes rest → Found house (next fact rest) → Holding count (fact ∷ facts) rest) →
-          (r : Result (Fact × List ℕ) Fault) → checkLine cs day right line facts s ≡ r → Found house (going facts next r) → Holding (suc count) facts s
+          (r : Result (Fact × List ℕ) Fault) → line_checked cs day right line facts s ≡ r → Found house (going facts next r) → Holding (suc count) facts s
       go behind (Ok p) is found =
           let g = line_read cs day right line facts formed s small p is in
-          line-more count facts s p.0 p.1 g (behind p.0 p.1 (bytes_rest (lineBytes g.line) p.1 (rw g.is-bytes at small)) found)
+          line-more count facts s p.0 p.1 g (behind p.0 p.1 (bytes_rest (line_bytes g.line) p.1 (rw g.is-bytes at small)) found)
       go behind (Err fault) is found = impossible (cc)
 
   -- and lines that hold are found to
   read-lines : length cs ≤ 1024 → (line : ℕ) (facts : List Fact) (lines : List Line) → All (Writable cs) lines →
-      holdsFrom cs day right facts lines house ≡ true → Found house (checkLines cs day right (length lines) line facts (sheetBytes lines))
-  unfolding checkLines holdsFrom
+      holds_from cs day right facts lines house ≡ true → Found house (lines_checked cs day right (length lines) line facts (bytes_of_sheet lines))
+  unfolding lines_checked holds_from
   read-lines few line facts [] writable held = rw held
   read-lines few line facts (l ∷ lines) writable held =
       let (g, rest) = first_good cs day right facts house l lines held in
-      rw (read-line cs day right line facts few l writable.0 g (sheetBytes lines))
+      rw (read-line cs day right line facts few l writable.0 g (bytes_of_sheet lines))
       (read-lines few (suc line) (shows cs l ∷ facts) lines writable.1 rest)
 
-pub checks-exactly : Checks-exactly
+pub checks-exactly : ChecksExactly
 checks-exactly cs formed few day right owner house count s small = (
   (λ found.
       let (lines, many, writable, is, held) = lines-read cs formed day right house count 0 (start owner) s small found in

@@ -1,7 +1,7 @@
 -- Loops over the houses and steps of a line: what is left gives the same as the whole. Assumes nothing.
 use Rattle.std.proofs.Common.{◌≡◌, ℕ, ◌+◌, ◌<◌, ◌≤◌, Bool, true, false, cond, ◌&&◌, leb, List, [], length, get_or, take, drop, Some, None, Ok, Err, Option, Result, sym, refl, ap, ◌∙◌, add-one, arith, get_or-take}
-use Rattle.sheets.specs.Checking.{knownHouses}
-use Rattle.sheets.specs.Reading.{walkBy}
+use Rattle.sheets.specs.Checking.{known_houses}
+use Rattle.sheets.specs.Reading.{walk_by}
 use Rattle.std.proofs.lemmas.List.{at_drop_more, drop_more, drop_all, length-take, length-take-le}
 use native.Mathlib.Nat.{min-le_left}
 
@@ -13,42 +13,42 @@ module _ (array : List ℕ) (count : ℕ) (fits : count ≤ length array) where
   pub front_at : (i : ℕ) → i < count → get_or (take count array) i 0 ≡ get_or array i 0
   front_at i below = get_or-take count array i 0 below
 
-  known_from : (i : ℕ) → i < count → knownHouses (drop i (take count array)) ≡ (leb (get_or array i 0) 1023 && knownHouses (drop (i + 1) (take count array)))
-  unfolding knownHouses
+  known_from : (i : ℕ) → i < count → known_houses (drop i (take count array)) ≡ (leb (get_or array i 0) 1023 && known_houses (drop (i + 1) (take count array)))
+  unfolding known_houses
   known_from i below =
-      let more : knownHouses (drop i (take count array)) ≡ (leb (get_or (take count array) i 0) 1023 && knownHouses (drop (i + 1) (take count array))) =
-      at_drop_more knownHouses (take count array) i 0 (omega (arith, front_length)) in
-      more ∙ ap (λ h. leb h 1023 && knownHouses (drop (i + 1) (take count array))) (front_at i below)
+      let more : known_houses (drop i (take count array)) ≡ (leb (get_or (take count array) i 0) 1023 && known_houses (drop (i + 1) (take count array))) =
+      at_drop_more known_houses (take count array) i 0 (omega (arith, front_length)) in
+      more ∙ ap (λ h. leb h 1023 && known_houses (drop (i + 1) (take count array))) (front_at i below)
 
   -- one house more is known
-  pub known_more : (i : ℕ) → i < count → leb (get_or array i 0) 1023 ≡ true → knownHouses (take count array) ≡ knownHouses (drop i (take count array)) →
-      knownHouses (take count array) ≡ knownHouses (drop (i + 1) (take count array))
-  known_more i below small so = so ∙ (known_from i below ∙ ap (λ b. b && knownHouses (drop (i + 1) (take count array))) small)
+  pub known_more : (i : ℕ) → i < count → leb (get_or array i 0) 1023 ≡ true → known_houses (take count array) ≡ known_houses (drop i (take count array)) →
+      known_houses (take count array) ≡ known_houses (drop (i + 1) (take count array))
+  known_more i below small so = so ∙ (known_from i below ∙ ap (λ b. b && known_houses (drop (i + 1) (take count array))) small)
 
   -- a house is not
-  pub known-not : (i : ℕ) → i < count → leb (get_or array i 0) 1023 ≡ false → knownHouses (take count array) ≡ knownHouses (drop i (take count array)) →
-      false ≡ knownHouses (take count array)
-  known-not i below large so = sym (so ∙ (known_from i below ∙ ap (λ b. b && knownHouses (drop (i + 1) (take count array))) large))
+  pub known-not : (i : ℕ) → i < count → leb (get_or array i 0) 1023 ≡ false → known_houses (take count array) ≡ known_houses (drop i (take count array)) →
+      false ≡ known_houses (take count array)
+  known-not i below large so = sym (so ∙ (known_from i below ∙ ap (λ b. b && known_houses (drop (i + 1) (take count array))) large))
 
 -- past the front nothing is left of it
 front-left : (array : List ℕ) (count i : ℕ) → count ≤ i → drop i (take count array) ≡ []
 front-left array count i past = drop_all i (take count array) (omega (arith, length-take count array, min-le_left count (length array)))
 
 -- all houses are known
-pub known-all-of : (array : List ℕ) (count i : ℕ) → count ≤ i → knownHouses (take count array) ≡ knownHouses (drop i (take count array)) → true ≡ knownHouses (take count array)
-unfolding knownHouses
-known-all-of array count i past so = sym (so ∙ ap knownHouses (front-left array count i past))
+pub known-all-of : (array : List ℕ) (count i : ℕ) → count ≤ i → known_houses (take count array) ≡ known_houses (drop i (take count array)) → true ≡ known_houses (take count array)
+unfolding known_houses
+known-all-of array count i past so = sym (so ∙ ap known_houses (front-left array count i past))
 
 -- the steps from the i-th on
-abbrev pub leftBy : (ℕ → ℕ → ℕ → Bool) → List ℕ → List ℕ → ℕ → ℕ → ℕ → Result ℕ ℕ
-leftBy test names houses count i at = walkBy test i at (drop i (take count names)) (drop i (take count houses))
+abbrev pub left_by : (ℕ → ℕ → ℕ → Bool) → List ℕ → List ℕ → ℕ → ℕ → ℕ → Result ℕ ℕ
+left_by test names houses count i at = walk_by test i at (drop i (take count names)) (drop i (take count houses))
 
 module _ (test : ℕ → ℕ → ℕ → Bool) (names houses : List ℕ) (count : ℕ) (named : count ≤ length names) (housed : count ≤ length houses) where
   abbrev left : ℕ → ℕ → Result ℕ ℕ
-  left i at = leftBy test names houses count i at
+  left i at = left_by test names houses count i at
 
   walk_from : (i at : ℕ) → i < count → left i at ≡ cond (test at (get_or names i 0) (get_or houses i 0)) (left (i + 1) (get_or houses i 0)) (Err i)
-  unfolding walkBy
+  unfolding walk_by
   walk_from i at below =
       let name = drop_more (take count names) i 0 (omega (arith, front_length names count named)) in
       let house = drop_more (take count houses) i 0 (omega (arith, front_length houses count housed)) in
@@ -80,6 +80,6 @@ module _ (test : ℕ → ℕ → ℕ → Bool) (names houses : List ℕ) (count 
 
 -- all steps are shown
 pub walk-all : (test : ℕ → ℕ → ℕ → Bool) (names houses : List ℕ) (count i at start : ℕ) → count ≤ i →
-    leftBy test names houses count 0 start ≡ leftBy test names houses count i at → Ok at ≡ leftBy test names houses count 0 start
-unfolding walkBy
+    left_by test names houses count 0 start ≡ left_by test names houses count i at → Ok at ≡ left_by test names houses count 0 start
+unfolding walk_by
 walk-all test names houses count i at start past so = let ended = front-left names count i past in sym (so ∙ rw ended)

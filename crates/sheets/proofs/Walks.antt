@@ -1,7 +1,7 @@
 -- What the check finds of a walk: whether its steps are shown and its houses known. Assumes nothing.
 use Rattle.std.proofs.Common.{◌≡◌, ℕ, suc, ◌≤◌, Bool, true, false, cond, leb, List, [], ◌∷◌, length, Some, None, Option, refl, ap, arith}
 use Rattle.sheets.proofs.Shown.{impossible}
-use Rattle.sheets.specs.Checking.{knownHouses, unshown}
+use Rattle.sheets.specs.Checking.{known_houses, unshown}
 use Rattle.sheets.specs.Facts.{Fact, NameMeans, shown}
 use Rattle.sheets.specs.Sheets.{walks}
 use Rattle.std.proofs.lemmas.Bool.{and_parts, and_from, leb-true, le-leb}
@@ -42,14 +42,14 @@ walk-length facts k (n ∷ names) [] e = impossible (cc)
 walk-length facts k (n ∷ names) (h ∷ houses) e =
     ap suc (walk-length facts h names houses (and_parts (shown (NameMeans k n h) facts) (walks facts h names houses) e).1)
 
-pub known-all : (houses : List ℕ) → knownHouses houses ≡ true → All (λ h. h ≤ 1023) houses
-unfolding knownHouses
+pub known-all : (houses : List ℕ) → known_houses houses ≡ true → All (λ h. h ≤ 1023) houses
+unfolding known_houses
 known-all [] e = tt
 known-all (h ∷ houses) e =
-    let (first, rest) = and_parts (leb h 1023) (knownHouses houses) e in
+    let (first, rest) = and_parts (leb h 1023) (known_houses houses) e in
     (leb-true h 1023 first, known-all houses rest)
 
-pub all_known : (houses : List ℕ) → All (λ h. h ≤ 1023) houses → knownHouses houses ≡ true
-unfolding knownHouses
+pub all_known : (houses : List ℕ) → All (λ h. h ≤ 1023) houses → known_houses houses ≡ true
+unfolding known_houses
 all_known [] known = refl
-all_known (h ∷ houses) known = and_from (leb h 1023) (knownHouses houses) (le-leb h 1023 known.0) (all_known houses known.1)
+all_known (h ∷ houses) known = and_from (leb h 1023) (known_houses houses) (le-leb h 1023 known.0) (all_known houses known.1)

@@ -9,8 +9,8 @@ use Rattle.sheets.proofs.Slots.{subjectHouses, subjects-covered, Within, start-r
 use Rattle.sheets.proofs.Walks.{walk-length, all_known}
 use Rattle.sheets.specs.Bytes.{Writable}
 use Rattle.sheets.specs.Facts.{Fact, NameMeans, shown}
-use Rattle.sheets.specs.Laws.{Holds-writable}
-use Rattle.sheets.specs.Sheets.{Line, certificateAt, walks, shows, start, holdsFrom, holds}
+use Rattle.sheets.specs.Laws.{HoldsWritable}
+use Rattle.sheets.specs.Sheets.{Line, certificate_at, walks, shows, start, holds_from, holds}
 use Rattle.std.proofs.ByRecursion.{All-weaker}
 use Rattle.std.proofs.lemmas.Bool.{and_parts}
 use Rattle.std.specs.List.{AllByRecursion as All}
@@ -29,7 +29,7 @@ walk-within houses facts within k (n ∷ names) (h ∷ walk) e =
 module _ (cs : List Certificate) (formed : All WellFormed cs) (day right : ℕ) where
   line-writable : (facts : List Fact) → Within (subjectHouses cs) facts → (l : Line) → Good cs day right facts l → Writable cs l
   line-writable facts within l g =
-      let c = certificateAt cs l.certificate in
+      let c = certificate_at cs l.certificate in
       let backed = good-backed cs day right facts l g in
       record {
         number = backed.number;
@@ -39,16 +39,16 @@ module _ (cs : List Certificate) (formed : All WellFormed cs) (day right : ℕ) 
       }
 
   lines-writable : (house : ℕ) (facts : List Fact) → Within (subjectHouses cs) facts → (lines : List Line) →
-      holdsFrom cs day right facts lines house ≡ true → All (Writable cs) lines
+      holds_from cs day right facts lines house ≡ true → All (Writable cs) lines
   lines-writable house facts within [] e = tt
   lines-writable house facts within (l ∷ lines) e =
       let (g, rest) = first_good cs day right facts house l lines e in
       let backed = good-backed cs day right facts l g in
-      let c = certificateAt cs l.certificate in (
+      let c = certificate_at cs l.certificate in (
         line-writable facts within l g,
         lines-writable house (shows cs l ∷ facts) (more_within within c (lastHouse cs l) (leads-within within (subjects-covered cs c backed.member) backed.leads)) lines rest,
       )
 
-pub holds-writable : Holds-writable
+pub holds-writable : HoldsWritable
 holds-writable cs formed day right owner house lines t =
     lines-writable cs formed day right house (start owner) (start-room cs (subjectHouses cs) owner).within lines (true-from-T (holds cs day right owner lines house) t)

@@ -6,16 +6,16 @@ use Rattle.certificates.specs.declared.Certificate.{Certificate}
 use Rattle.certificates.specs.declared.Statement.{Statement}
 use Rattle.certificates.specs.declared.Statement.TheVariants.{Name, Rights}
 use Rattle.sheets.specs.Facts.{Fact, NameMeans, HasRight, shown}
-use Rattle.sheets.specs.Sheets.{certificateAt, reached, fact_of, start, entitled}
+use Rattle.sheets.specs.Sheets.{certificate_at, reached, fact_of, start, entitled}
 use Rattle.std.specs.Option.{option_map}
-use Rattle.wire.specs.Numbers.{Taken, takeNumber, takeNumbers}
+use Rattle.wire.specs.Numbers.{Taken, take_number, take_numbers}
 use Rattle.wire.specs.declared.faults.Fault.{Fault}
 use Rattle.wire.specs.declared.faults.Fault.TheVariants.{Malformed, LineCut, LineOutOfRange, LineUnknown, NotValid, NotGiven, IssuerNotShown, StepNotShown, HouseNotShown}
 
 -- no house above 1,023
-unfoldable pub knownHouses : List ℕ → Bool
-knownHouses [] = true
-knownHouses (h ∷ houses) = nat_le h 1023 && knownHouses houses
+unfoldable pub known_houses : List ℕ → Bool
+known_houses [] = true
+known_houses (h ∷ houses) = nat_le h 1023 && known_houses houses
 
 -- the first step that is not shown, if there is one
 unfoldable pub unshown : List Fact → ℕ → List ℕ → List ℕ → Option ℕ
@@ -39,7 +39,7 @@ module _ (line : ℕ) (facts : List Fact) (c : Certificate) (houses : List ℕ) 
 
   -- what the line shows, or the lowest number of its faults
   abbrev pub judged : ℕ → ℕ → Result Fact Fault
-  judged day right = cond (knownHouses houses) (cond (valid day c) (allowed right c.statement) (Err (NotValid line))) (Err (LineOutOfRange line))
+  judged day right = cond (known_houses houses) (cond (valid day c) (allowed right c.statement) (Err (NotValid line))) (Err (LineOutOfRange line))
 
 abbrev pub followed : List ℕ → Result Fact Fault → Result (Fact × List ℕ) Fault
 followed rest (Ok fact) = Ok (fact, rest)
@@ -57,21 +57,21 @@ going facts next (Err fault) = (facts, Err fault)
 module _ (cs : List Certificate) (day right : ℕ) where
   abbrev pub housed : ℕ → List Fact → ℕ → Taken (List ℕ) → Result (Fact × List ℕ) Fault
   housed line facts number None = Err (LineCut line)
-  housed line facts number (Some p) = followed p.1 (judged line facts (certificateAt cs number) p.0 day right)
+  housed line facts number (Some p) = followed p.1 (judged line facts (certificate_at cs number) p.0 day right)
 
   abbrev pub numbered : ℕ → List Fact → Taken ℕ → Result (Fact × List ℕ) Fault
   numbered line facts None = Err (LineCut line)
   numbered line facts (Some p) =
-      cond (nat_lt p.0 (length cs)) (housed line facts p.0 (takeNumbers (certificateAt cs p.0).subject.count p.1)) (Err (LineUnknown line))
+      cond (nat_lt p.0 (length cs)) (housed line facts p.0 (take_numbers (certificate_at cs p.0).subject.count p.1)) (Err (LineUnknown line))
 
   -- one line: what it shows and what follows it, or its fault
-  abbrev pub checkLine : ℕ → List Fact → List ℕ → Result (Fact × List ℕ) Fault
-  checkLine line facts s = numbered line facts (takeNumber 2 s)
+  abbrev pub line_checked : ℕ → List Fact → List ℕ → Result (Fact × List ℕ) Fault
+  line_checked line facts s = numbered line facts (take_number 2 s)
 
-  unfoldable pub checkLines : ℕ → ℕ → List Fact → List ℕ → Checked
-  checkLines zero line facts s = (facts, Ok s)
-  checkLines (suc count) line facts s =
-      going facts (λ fact rest. checkLines count (suc line) (fact ∷ facts) rest) (checkLine line facts s)
+  unfoldable pub lines_checked : ℕ → ℕ → List Fact → List ℕ → Checked
+  lines_checked zero line facts s = (facts, Ok s)
+  lines_checked (suc count) line facts s =
+      going facts (λ fact rest. lines_checked count (suc line) (fact ∷ facts) rest) (line_checked line facts s)
 
 -- after all lines no bytes are left over, and the house is shown to have the right
 abbrev pub concluded : ℕ → List Fact → Result (List ℕ) Fault → Result (Unit {0}) Fault
@@ -80,7 +80,7 @@ concluded house facts (Ok (b ∷ rest)) = Err Malformed
 concluded house facts (Ok []) = cond (entitled house facts) (Ok tt) (Err HouseNotShown)
 
 -- the facts that a sheet of some lines shows, and whether it holds for the house
-abbrev pub checkSheet : List Certificate → ℕ → ℕ → ℕ → ℕ → ℕ → List ℕ → List Fact × Result (Unit {0}) Fault
-checkSheet cs day right owner house count s =
-    let done = checkLines cs day right count 0 (start owner) s in
+abbrev pub check_sheet : List Certificate → ℕ → ℕ → ℕ → ℕ → ℕ → List ℕ → List Fact × Result (Unit {0}) Fault
+check_sheet cs day right owner house count s =
+    let done = lines_checked cs day right count 0 (start owner) s in
     (done.0, concluded house done.0 done.1)

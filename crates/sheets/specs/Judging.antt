@@ -4,8 +4,8 @@ use Rattle.certificates.specs.Certificates.{valid}
 use Rattle.certificates.specs.Rights.{member}
 use Rattle.certificates.specs.declared.Statement.{Statement}
 use Rattle.certificates.specs.declared.Statement.TheVariants.{Name, Rights}
-use Rattle.sheets.specs.Checking.{knownHouses}
-use Rattle.sheets.specs.Reading.{housesOf, walkedBy}
+use Rattle.sheets.specs.Checking.{known_houses}
+use Rattle.sheets.specs.Reading.{houses_of, walked_by}
 use Rattle.sheets.specs.declared.reading.Line.{Line}
 use Rattle.wire.specs.declared.faults.Fault.{Fault}
 use Rattle.wire.specs.declared.faults.Fault.TheVariants.{LineOutOfRange, NotValid, NotGiven, IssuerNotShown, StepNotShown}
@@ -15,19 +15,19 @@ abbrev pub permits : ℕ → Bool → ℕ → Statement → Result (Unit {0}) Fa
 permits right shown line (Name name) = Ok tt
 permits right shown line (Rights set delegable) = cond (member right set) (cond shown (Ok tt) (Err (IssuerNotShown line))) (Err (NotGiven line))
 
-abbrev pub stepFault : ℕ → Result ℕ ℕ → Result ℕ Fault
-stepFault line (Ok last) = Ok last
-stepFault line (Err step) = Err (StepNotShown line step)
+abbrev pub step_fault : ℕ → Result ℕ ℕ → Result ℕ Fault
+step_fault line (Ok last) = Ok last
+step_fault line (Err step) = Err (StepNotShown line step)
 
 abbrev pub afterwards : Result (Unit {0}) Fault → Result ℕ Fault → Result ℕ Fault
 afterwards (Ok u) next = next
 afterwards (Err fault) next = Err fault
 
 -- the last house reached, or the lowest number of the line's faults
-abbrev pub judgedBy : (ℕ → ℕ → ℕ → Bool) → Bool → ℕ → ℕ → ℕ → Line → Result ℕ Fault
-judgedBy test shown line day right l =
-    cond (knownHouses (housesOf l))
+abbrev pub judged_by : (ℕ → ℕ → ℕ → Bool) → Bool → ℕ → ℕ → ℕ → Line → Result ℕ Fault
+judged_by test shown line day right l =
+    cond (known_houses (houses_of l))
     (cond (valid day l.certificate)
-    (afterwards (permits right shown line l.certificate.statement) (stepFault line (walkedBy test l)))
+    (afterwards (permits right shown line l.certificate.statement) (step_fault line (walked_by test l)))
     (Err (NotValid line)))
     (Err (LineOutOfRange line))

@@ -3,8 +3,8 @@ use Rattle.std.specs.Prelude.{◌≡◌, ℕ, ◌*◌, ◌<◌, ◌≤◌, T, �
 use Rattle.certificates.specs.Certificates.{WellFormed}
 use Rattle.certificates.specs.Meaning.{May}
 use Rattle.certificates.specs.declared.Certificate.{Certificate}
-use Rattle.sheets.specs.Bytes.{sheetBytes, Writable}
-use Rattle.sheets.specs.Checking.{checkSheet}
+use Rattle.sheets.specs.Bytes.{bytes_of_sheet, Writable}
+use Rattle.sheets.specs.Checking.{check_sheet}
 use Rattle.sheets.specs.Sheets.{Line, holds}
 use Rattle.std.specs.List.{AllByRecursion as All}
 use mathlib.Core.List.{Memᴰ}
@@ -28,12 +28,12 @@ abbrev pub Decided : Type 0
 Decided = (cs : List Certificate) (day right owner house : ℕ) → May cs day right owner house ⊎ (May cs day right owner house → ⊥)
 
 -- The check says that a sheet holds exactly where the bytes are those of so many lines that hold.
-abbrev pub Checks-exactly : Type 0
-Checks-exactly = (cs : List Certificate) → All WellFormed cs → length cs ≤ 1024 → (day right owner house count : ℕ) (s : List ℕ) → All (λ b. b < 256) s →
-    ((checkSheet cs day right owner house count s).1 ≡ Ok tt) ↔
-    ((lines : List Line) × (length lines ≡ count) × All (Writable cs) lines × (s ≡ sheetBytes lines) × T (holds cs day right owner lines house))
+abbrev pub ChecksExactly : Type 0
+ChecksExactly = (cs : List Certificate) → All WellFormed cs → length cs ≤ 1024 → (day right owner house count : ℕ) (s : List ℕ) → All (λ b. b < 256) s →
+    ((check_sheet cs day right owner house count s).1 ≡ Ok tt) ↔
+    ((lines : List Line) × (length lines ≡ count) × All (Writable cs) lines × (s ≡ bytes_of_sheet lines) × T (holds cs day right owner lines house))
 
 -- Every line of a sheet that holds can be written.
-abbrev pub Holds-writable : Type 0
-Holds-writable = (cs : List Certificate) → All WellFormed cs → (day right owner house : ℕ) (lines : List Line) →
+abbrev pub HoldsWritable : Type 0
+HoldsWritable = (cs : List Certificate) → All WellFormed cs → (day right owner house : ℕ) (lines : List Line) →
     T (holds cs day right owner lines house) → All (Writable cs) lines

@@ -2,11 +2,11 @@
 ghost use Rattle.std.specs.Prelude.{◌≡◌, ◌≤◌, true, length};
 ghost use Rattle.certificates.specs.Certificates.{names_of, in_range};
 ghost use Rattle.facts.specs.Table.{bit_at};
-ghost use Rattle.registry.specs.Numbered.{certificatesOf};
-ghost use Rattle.sheets.specs.Judging.{judgedBy};
+ghost use Rattle.registry.specs.Numbered.{certificates_of};
+ghost use Rattle.sheets.specs.Judging.{judged_by};
 ghost use Rattle.sheets.specs.Memory.{remembered};
-ghost use Rattle.sheets.specs.Passing.{namesAfter, rightsAfter, LinePassed, LinesPassed, rest_of, entitledBy, concludedBy, askable, Wiped, Done, answered, leftIn};
-ghost use Rattle.sheets.specs.Reading.{housesOf};
+ghost use Rattle.sheets.specs.Passing.{names_after, rights_after, LinePassed, LinesPassed, rest_of, entitled_by, concluded_by, askable, Wiped, Done, answered, left_in};
+ghost use Rattle.sheets.specs.Reading.{houses_of};
 
 use crate::judging::judge;
 use crate::memory::{DELEGATORS, HOLDERS, note};
@@ -48,10 +48,10 @@ fn judge_then_note(
     line: &Line,
 ) -> Result<u16, Fault>
     requires { in_range line.now.certificate ≡ true }
-    ensures value { result ≡ judgedBy (remembered (certificatesOf registry.now) names.old) (bit_at rights.old 0 line.now.certificate.issuer) number question.now.day question.now.right line.now }
-    ensures paired { length (names_of line.now.certificate.subject) ≡ length (housesOf line.now) }
-    ensures names { names.new ≡ namesAfter (certificatesOf registry.now) line.now.certificate result names.old }
-    ensures rights { rights.new ≡ rightsAfter line.now.certificate result rights.old }
+    ensures value { result ≡ judged_by (remembered (certificates_of registry.now) names.old) (bit_at rights.old 0 line.now.certificate.issuer) number question.now.day question.now.right line.now }
+    ensures paired { length (names_of line.now.certificate.subject) ≡ length (houses_of line.now) }
+    ensures names { names.new ≡ names_after (certificates_of registry.now) line.now.certificate result names.old }
+    ensures rights { rights.new ≡ rights_after line.now.certificate result rights.old }
 {
     let last = judge(
         registry,
@@ -75,7 +75,7 @@ fn check_line<'a>(
     number: u32,
     bytes: &'a [u8],
 ) -> Result<&'a [u8], Fault>
-    ensures { LinePassed (certificatesOf registry.now) question.now number bytes.now names.old rights.old names.new rights.new (rest_of result) }
+    ensures { LinePassed (certificates_of registry.now) question.now number bytes.now names.old rights.old names.new rights.new (rest_of result) }
 {
     let (line, rest) = read_line(registry, number, bytes)?;
     judge_then_note(registry, question, names, rights, number, &line)?;
@@ -91,7 +91,7 @@ fn check_lines<'a>(
     count: u32,
     lines: &'a [u8],
 ) -> Result<&'a [u8], Fault>
-    ensures { LinesPassed (certificatesOf registry.now) question.now count lines.now names.old rights.old names.new rights.new (rest_of result) }
+    ensures { LinesPassed (certificates_of registry.now) question.now count lines.now names.old rights.old names.new rights.new (rest_of result) }
 {
     let mut rest = lines;
     for number in 0..count {
@@ -102,7 +102,7 @@ fn check_lines<'a>(
 
 // After all lines: no bytes are left over, and the house is shown to have the right.
 fn conclude(house: u16, rights: &[u64], rest: &[u8]) -> Result<(), Fault>
-    ensures { result ≡ concludedBy (entitledBy rights.now house) rest.now }
+    ensures { result ≡ concluded_by (entitled_by rights.now house) rest.now }
 {
     if !rest.is_empty() {
         return Err(Fault::Malformed);
@@ -122,7 +122,7 @@ fn check_wiped(
     lines: &[u8],
     memory: &mut [u64],
 ) -> Result<(), Fault>
-    ensures { Wiped memory.old → askable question.now ≡ true → length (certificatesOf registry.now) ≤ 1024 → Done (certificatesOf registry.now) question.now count lines.now memory.new result }
+    ensures { Wiped memory.old → askable question.now ≡ true → length (certificates_of registry.now) ≤ 1024 → Done (certificates_of registry.now) question.now count lines.now memory.new result }
 {
     let mut rights = [0; 32];
     show(&mut rights, DELEGATORS, question.owner);
@@ -149,7 +149,7 @@ fn check_fresh(
 ) -> Result<(), Fault>
     requires long { 16384 ≤ length memory.old }
     requires asked { askable question.now ≡ true }
-    ensures done { Done (certificatesOf registry.now) question.now count lines.now memory.new result }
+    ensures done { Done (certificates_of registry.now) question.now count lines.now memory.new result }
 {
     start_anew(memory);
     check_wiped(registry, question, count, lines, memory)
@@ -168,8 +168,8 @@ pub fn check(
     lines: &[u8],
     memory: &mut [u64],
 ) -> Result<Result<(), Fault>, ShortMemory>
-    ensures value { result ≡ answered (certificatesOf registry.now) question.now count lines.now (length memory.old) }
-    ensures memory { memory.new ≡ leftIn (certificatesOf registry.now) question.now count lines.now memory.old }
+    ensures value { result ≡ answered (certificates_of registry.now) question.now count lines.now (length memory.old) }
+    ensures memory { memory.new ≡ left_in (certificates_of registry.now) question.now count lines.now memory.old }
 {
     if memory.len() < MEMORY_WORDS {
         return Err(ShortMemory);

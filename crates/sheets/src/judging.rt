@@ -1,10 +1,10 @@
 // Whether a line is good, by the facts in memory.
 ghost use Rattle.certificates.specs.Certificates.{names_of, in_range};
 ghost use Rattle.facts.specs.Table.{bit_at};
-ghost use Rattle.registry.specs.Numbered.{certificatesOf};
-ghost use Rattle.sheets.specs.Judging.{permits, judgedBy};
+ghost use Rattle.registry.specs.Numbered.{certificates_of};
+ghost use Rattle.sheets.specs.Judging.{permits, judged_by};
 ghost use Rattle.sheets.specs.Memory.{remembered};
-ghost use Rattle.sheets.specs.Reading.{housesOf};
+ghost use Rattle.sheets.specs.Reading.{houses_of};
 ghost use Rattle.std.specs.Prelude.{◌≡◌, true, length};
 
 use crate::memory::DELEGATORS;
@@ -42,8 +42,8 @@ pub(crate) fn judge(
     line: &Line,
 ) -> Result<u16, Fault>
     requires { in_range line.now.certificate ≡ true }
-    ensures value { result ≡ judgedBy (remembered (certificatesOf registry.now) names.now) (bit_at rights.now 0 line.now.certificate.issuer) number day right line.now }
-    ensures paired { length (names_of line.now.certificate.subject) ≡ length (housesOf line.now) }
+    ensures value { result ≡ judged_by (remembered (certificates_of registry.now) names.now) (bit_at rights.now 0 line.now.certificate.issuer) number day right line.now }
+    ensures paired { length (names_of line.now.certificate.subject) ≡ length (houses_of line.now) }
 {
     if !known(line) {
         return Err(Fault::LineOutOfRange { line: number });

@@ -1,11 +1,11 @@
 // Laws of sheets: nothing is computed here, each clause is a theorem that the check proves.
-ghost use Rattle.sheets.specs.Laws.{Sound, Complete, Decided, Checks-exactly, Holds-writable};
+ghost use Rattle.sheets.specs.Laws.{Sound, Complete, Decided, ChecksExactly, HoldsWritable};
 
 // What holds of every sheet, whatever the certificates are.
 pub fn laws_of_sheets()
     ensures sound { Sound }
     ensures complete { Complete }
     ensures decided { Decided }
-    ensures checks_exactly { Checks-exactly }
-    ensures holds_writable { Holds-writable }
+    ensures checks_exactly { ChecksExactly }
+    ensures holds_writable { HoldsWritable }
 {}

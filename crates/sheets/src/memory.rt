@@ -1,7 +1,7 @@
 // Facts in lent memory.
 ghost use Rattle.std.specs.Prelude.{◌≡◌, ◌<◌};
-ghost use Rattle.registry.specs.Numbered.{certificatesOf};
-ghost use Rattle.sheets.specs.Memory.{noteName, noteRight};
+ghost use Rattle.registry.specs.Numbered.{certificates_of};
+ghost use Rattle.sheets.specs.Memory.{note_name, note_right};
 ghost use Rattle.sheets.specs.Sheets.{fact_of};
 
 use certificates::{Certificate, Statement};
@@ -21,8 +21,8 @@ pub(crate) fn note(
     names: &mut [u64],
     rights: &mut [u64],
 )
-    ensures names { names.new ≡ noteName (certificatesOf registry.now) (fact_of certificate.now last) names.old }
-    ensures rights { rights.new ≡ noteRight (fact_of certificate.now last) rights.old }
+    ensures names { names.new ≡ note_name (certificates_of registry.now) (fact_of certificate.now last) names.old }
+    ensures rights { rights.new ≡ note_right (fact_of certificate.now last) rights.old }
 {
     match certificate.statement {
         Statement::Name(name) => {

@@ -1,9 +1,9 @@
 // Lines of a sheet, read from bytes.
 ghost use Rattle.std.specs.Prelude.{◌≡◌, ℕ, List, IfOk};
-ghost use Rattle.registry.specs.Numbered.{certificatesOf};
-ghost use Rattle.sheets.specs.Checking.{checkLine};
+ghost use Rattle.registry.specs.Numbered.{certificates_of};
+ghost use Rattle.sheets.specs.Checking.{line_checked};
 ghost use Rattle.sheets.specs.Facts.{Fact};
-ghost use Rattle.sheets.specs.Reading.{Kept, outcomeOf, past_of, skipLine, skipLines};
+ghost use Rattle.sheets.specs.Reading.{Kept, outcome_of, past_of, line_skipped, lines_skipped};
 
 use certificates::Certificate;
 use registry::Registry;
@@ -23,8 +23,8 @@ pub(crate) fn read_line<'a>(
     line: u32,
     bytes: &'a [u8],
 ) -> Result<(Line, &'a [u8]), Fault>
-    ensures value { (day right : ℕ) (facts : List Fact) → checkLine (certificatesOf registry.now) day right line facts bytes.now ≡ outcomeOf day right line facts result }
-    ensures sound { IfOk result (λ p. Kept (certificatesOf registry.now) p.0.certificate) }
+    ensures value { (day right : ℕ) (facts : List Fact) → line_checked (certificates_of registry.now) day right line facts bytes.now ≡ outcome_of day right line facts result }
+    ensures sound { IfOk result (λ p. Kept (certificates_of registry.now) p.0.certificate) }
 {
     let Some((number, rest)) = read_u16(bytes) else {
         return Err(Fault::LineCut { line });
@@ -46,7 +46,7 @@ pub(crate) fn read_line<'a>(
 
 // Walks over a line without checking it: what follows it.
 fn skip_line<'a>(registry: &Registry, bytes: &'a [u8]) -> Option<&'a [u8]>
-    ensures { past_of result ≡ skipLine (certificatesOf registry.now) bytes.now }
+    ensures { past_of result ≡ line_skipped (certificates_of registry.now) bytes.now }
 {
     let Some((number, rest)) = read_u16(bytes) else {
         return None;
@@ -62,7 +62,7 @@ fn skip_line<'a>(registry: &Registry, bytes: &'a [u8]) -> Option<&'a [u8]>
 
 // Walks over so many lines, which may begin anywhere: what follows them, or `None` where one is cut or names no certificate.
 pub fn skip_lines<'a>(registry: &Registry, count: u32, bytes: &'a [u8]) -> Option<&'a [u8]>
-    ensures { past_of result ≡ skipLines (certificatesOf registry.now) count bytes.now }
+    ensures { past_of result ≡ lines_skipped (certificates_of registry.now) count bytes.now }
 {
     let mut rest = bytes;
     for _line in 0..count {

@@ -1,10 +1,10 @@
 // The steps of a line: from the subject's house by each of its names to the next house.
 ghost use Rattle.std.specs.Prelude.{◌≡◌, ◌≤◌, length, if◌then◌else◌, Some, None, nat_le};
 ghost use Rattle.certificates.specs.Certificates.{names_of};
-ghost use Rattle.registry.specs.Numbered.{certificatesOf};
-ghost use Rattle.sheets.specs.Checking.{knownHouses};
+ghost use Rattle.registry.specs.Numbered.{certificates_of};
+ghost use Rattle.sheets.specs.Checking.{known_houses};
 ghost use Rattle.sheets.specs.Memory.{remembered};
-ghost use Rattle.sheets.specs.Reading.{housesOf, walkedBy};
+ghost use Rattle.sheets.specs.Reading.{houses_of, walked_by};
 
 use crate::reading::Line;
 use certificates::LAST_HOUSE;
@@ -15,7 +15,7 @@ use registry::Registry;
 fn count_steps(line: &Line) -> usize
     requires { line.now.certificate.subject.count ≤ 6 }
     ensures value { result ≡ line.now.certificate.subject.count }
-    ensures houses { length (housesOf line.now) ≡ result }
+    ensures houses { length (houses_of line.now) ≡ result }
     ensures names { length (names_of line.now.certificate.subject) ≡ result }
 {
     let count = usize::from(line.certificate.subject.count);
@@ -34,8 +34,8 @@ fn is_house(number: u16) -> bool
 // Whether no house of the line is above 1,023.
 pub(crate) fn known(line: &Line) -> bool
     requires { line.now.certificate.subject.count ≤ 6 }
-    ensures value { result ≡ knownHouses (housesOf line.now) }
-    ensures paired { length (names_of line.now.certificate.subject) ≡ length (housesOf line.now) }
+    ensures value { result ≡ known_houses (houses_of line.now) }
+    ensures paired { length (names_of line.now.certificate.subject) ≡ length (houses_of line.now) }
 {
     for i in 0..count_steps(line) {
         if !is_house(line.houses.numbers[i]) {
@@ -47,7 +47,7 @@ pub(crate) fn known(line: &Line) -> bool
 
 // The next house, if it is shown that the house's name means it.
 fn step(registry: &Registry, names: &[u64], house: u16, name: u16, next: u16) -> Option<u16>
-    ensures { result ≡ (if remembered (certificatesOf registry.now) names.now house name next then Some next else None) }
+    ensures { result ≡ (if remembered (certificates_of registry.now) names.now house name next then Some next else None) }
 {
     let Some(row) = registry.row(house, name) else {
         return None;
@@ -62,7 +62,7 @@ fn step(registry: &Registry, names: &[u64], house: u16, name: u16, next: u16) ->
 // Follows the steps: the last house reached, or the first step that is not shown.
 pub(crate) fn walk(registry: &Registry, names: &[u64], line: &Line) -> Result<u16, u8>
     requires { line.now.certificate.subject.count ≤ 6 }
-    ensures { result ≡ walkedBy (remembered (certificatesOf registry.now) names.now) line.now }
+    ensures { result ≡ walked_by (remembered (certificates_of registry.now) names.now) line.now }
 {
     let subject = line.certificate.subject;
     let mut at = subject.house;

@@ -9,31 +9,31 @@ use Rattle.wire.proofs.Formed.{formed, fields_of, fields-of}
 use Rattle.wire.proofs.Frames.{frame-part}
 use Rattle.wire.proofs.Numerals.{byte-taken, number-part}
 use Rattle.wire.proofs.Parts.{impossible}
-use Rattle.wire.specs.Exact.{Writable, Written-is-read, Fields, Fits as FieldsFit, fieldsBytes, certificateOf, Exactly}
-use Rattle.wire.specs.Format.{eventBytes}
-use Rattle.wire.specs.Numbers.{Taken, bytes, takeNumber}
-use Rattle.wire.specs.Reading.{frame, Reading, stopped, looked, revoking, readKind, readEvent}
+use Rattle.wire.specs.Exact.{Writable, WrittenIsRead, Fields, Fits as FieldsFit, fields_bytes, certificate_of, Exactly}
+use Rattle.wire.specs.Format.{bytes_of_event}
+use Rattle.wire.specs.Numbers.{Taken, bytes, take_number}
+use Rattle.wire.specs.Reading.{frame, Reading, stopped, looked, revoking, read_kind, event_read}
 use Rattle.wire.specs.declared.events.Event.{Event}
 use Rattle.wire.specs.declared.events.Event.TheVariants.{Issued, Revoked, DayPassed}
 use Rattle.wire.specs.declared.faults.Fault.{Fault}
 use Rattle.wire.specs.declared.faults.Fault.TheVariants.{Malformed, OutOfRange}
 
 -- fields are read whatever their values, and then looked at
-pub fields_read : (f : Fields) → FieldsFit f → (rest : List ℕ) → readEvent (1 ∷ (fieldsBytes f ++ rest)) ≡ looked (Some (certificateOf f, rest))
-fields_read f fits rest = ap readKind (byte-taken 1 (fieldsBytes f ++ rest)) ∙ ap looked (frame-part.complete f fits rest)
+pub fields_read : (f : Fields) → FieldsFit f → (rest : List ℕ) → event_read (1 ∷ (fields_bytes f ++ rest)) ≡ looked (Some (certificate_of f, rest))
+fields_read f fits rest = ap read_kind (byte-taken 1 (fields_bytes f ++ rest)) ∙ ap looked (frame-part.complete f fits rest)
 
-pub read_back : Written-is-read
+pub read_back : WrittenIsRead
 read_back (Issued c) w rest =
     let so = fields-of c w in
     rw (so.same_bytes, fields_read (fields_of c) so.fits rest, so.in-range) (ap (λ d. Ok (Issued d, rest)) so.same)
 read_back (Revoked number) w rest =
-    ap readKind (byte-taken 2 (bytes 2 number ++ rest)) ∙ ap revoking ((number-part 2).complete number w rest)
-read_back DayPassed w rest = ap readKind (byte-taken 3 rest)
+    ap read_kind (byte-taken 2 (bytes 2 number ++ rest)) ∙ ap revoking ((number-part 2).complete number w rest)
+read_back DayPassed w rest = ap read_kind (byte-taken 3 rest)
 
 -- what reading gives, and why
 pub data Outcome (s : List ℕ) : Reading → Type 0 where
-  event : {e : Event} {rest : List ℕ} → Writable e → s ≡ eventBytes e ++ rest → Outcome s (Ok (e, rest))
-  refused : {rest : List ℕ} (f : Fields) → FieldsFit f → in_range (certificateOf f) ≡ false → s ≡ 1 ∷ (fieldsBytes f ++ rest) →
+  event : {e : Event} {rest : List ℕ} → Writable e → s ≡ bytes_of_event e ++ rest → Outcome s (Ok (e, rest))
+  refused : {rest : List ℕ} (f : Fields) → FieldsFit f → in_range (certificate_of f) ≡ false → s ≡ 1 ∷ (fields_bytes f ++ rest) →
       Outcome s (Err (OutOfRange, rest))
   stop : Outcome s stopped
 
@@ -47,37 +47,37 @@ module _ (s : List ℕ) (small : All (λ b. b < 256) s) where
       rw v (event well (ap (λ t. 1 ∷ t) (w ∙ ap (λ t. t ++ p.1) (sym same)))) in
       cond_both (in_range p.0) _ _ (Outcome (1 ∷ s)) read (λ out. refused f fits (rw v at out) (ap (λ t. 1 ∷ t) w))
 
-  revoked : (t : Taken ℕ) → takeNumber 2 s ≡ t → Outcome (2 ∷ s) (revoking t)
+  revoked : (t : Taken ℕ) → take_number 2 s ≡ t → Outcome (2 ∷ s) (revoking t)
   revoked None is = stop
   revoked (Some p) is =
       let (n, fits, v, w) = (number-part 2).sound s small p.0 p.1 is in
       rw v (event fits (ap (λ t. 2 ∷ t) w))
 
-  of-kind : (kind : ℕ) → Outcome (kind ∷ s) (readKind (Some (kind, s)))
+  of-kind : (kind : ℕ) → Outcome (kind ∷ s) (read_kind (Some (kind, s)))
   of-kind kind =
       cond_both (eqb kind 1) _ _ (Outcome (kind ∷ s)) (λ is. rw (eqb-true kind 1 is) (issued (frame s) refl)) λ not1.
-      cond_both (eqb kind 2) _ _ (Outcome (kind ∷ s)) (λ is. rw (eqb-true kind 2 is) (revoked (takeNumber 2 s) refl)) λ not2.
+      cond_both (eqb kind 2) _ _ (Outcome (kind ∷ s)) (λ is. rw (eqb-true kind 2 is) (revoked (take_number 2 s) refl)) λ not2.
       cond_both (eqb kind 3) _ _ (Outcome (kind ∷ s)) (λ is. rw (eqb-true kind 3 is) (event tt refl)) λ not3.
       stop
 
-pub outcome : (s : List ℕ) → All (λ b. b < 256) s → Outcome s (readEvent s)
+pub outcome : (s : List ℕ) → All (λ b. b < 256) s → Outcome s (event_read s)
 outcome [] small = stop
 outcome (kind ∷ s) small = rw (byte-taken kind s) (of-kind s small.1 kind)
 
 module _ (s : List ℕ) where
-  event-read : {r : Reading} → Outcome s r → (e : Event) (rest : List ℕ) → r ≡ Ok (e, rest) → Writable e × (s ≡ eventBytes e ++ rest)
+  event-read : {r : Reading} → Outcome s r → (e : Event) (rest : List ℕ) → r ≡ Ok (e, rest) → Writable e × (s ≡ bytes_of_event e ++ rest)
   event-read (event {e = e₁} {rest = rest₁} w is) e rest eq =
       let same : ◌≡◌ {A = Event × List ℕ} (e₁, rest₁) (e, rest) = cc in
-      subst (λ (p : Event × List ℕ). Writable p.0 × (s ≡ eventBytes p.0 ++ p.1)) same (w, is)
+      subst (λ (p : Event × List ℕ). Writable p.0 × (s ≡ bytes_of_event p.0 ++ p.1)) same (w, is)
   event-read (refused f fits out is) e rest eq = impossible (cc)
   event-read stop e rest eq = impossible (cc)
 
   refused-read : {r : Reading} → Outcome s r → (rest : List ℕ) → r ≡ Err (OutOfRange, rest) →
-      (f : Fields) × FieldsFit f × (in_range (certificateOf f) ≡ false) × (s ≡ 1 ∷ (fieldsBytes f ++ rest))
+      (f : Fields) × FieldsFit f × (in_range (certificate_of f) ≡ false) × (s ≡ 1 ∷ (fields_bytes f ++ rest))
   refused-read (event w is) rest eq = impossible (cc)
   refused-read (refused {rest = rest₁} f fits out is) rest eq =
       let same : ◌≡◌ {A = Fault × List ℕ} (OutOfRange, rest₁) (OutOfRange, rest) = cc in
-      (f, fits, out, is ∙ ap (λ (p : Fault × List ℕ). 1 ∷ (fieldsBytes f ++ p.1)) same)
+      (f, fits, out, is ∙ ap (λ (p : Fault × List ℕ). 1 ∷ (fields_bytes f ++ p.1)) same)
   refused-read stop rest eq =
       let same : ◌≡◌ {A = Fault × List ℕ} (Malformed, []) (OutOfRange, rest) = cc in
       let fault : Malformed ≡ OutOfRange = ap (λ p. p.0) same in
@@ -93,7 +93,7 @@ module _ (s : List ℕ) where
       let same : ◌≡◌ {A = Fault × List ℕ} (fault, rest) (Malformed, []) = cc in
       inr (ap (λ p. p.0) same, ap (λ p. p.1) same)
 
-pub exactly : (s : List ℕ) → All (λ b. b < 256) s → Exactly s (readEvent s)
+pub exactly : (s : List ℕ) → All (λ b. b < 256) s → Exactly s (event_read s)
 exactly s small =
     let so = outcome s small in
     record {
@@ -103,5 +103,5 @@ exactly s small =
     }
 
 -- the same of any answer that is what reading gives
-pub exactly-read : (s : List ℕ) (r : Reading) → ((i : ℕ) → Fits w8 (get_or s i 0)) → r ≡ readEvent s → Exactly s r
+pub exactly-read : (s : List ℕ) (r : Reading) → ((i : ℕ) → Fits w8 (get_or s i 0)) → r ≡ event_read s → Exactly s r
 exactly-read s r small is = rw is (exactly s (All-from_get_or (λ b. b < 256) s 0 (λ i h. (small i).fits)))

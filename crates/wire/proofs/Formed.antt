@@ -1,13 +1,13 @@
 -- The fields with values that a certificate may have are those of the well-formed certificates. Assumes nothing.
 use Rattle.std.proofs.Common.{◌≡◌, ℕ, ◌+◌, ◌-◌, ◌≤◌, true, ◌&&◌, leb, List, ◌++◌, length, take, drop, replicate, sym, refl, ap, ◌∙◌, ap₂, append_assoc, arith}
-use Rattle.certificates.specs.Certificates.{someRight, in_range, names_of, Sensible, WellFormed}
+use Rattle.certificates.specs.Certificates.{has_some_right, in_range, names_of, Sensible, WellFormed}
 use Rattle.certificates.specs.declared.Certificate.{Certificate}
 use Rattle.certificates.specs.declared.Statement.{Statement}
 use Rattle.certificates.specs.declared.Statement.TheVariants.{Name, Rights}
 use Rattle.std.proofs.lemmas.List.{take-append-drop, take_at, drop_at, length-take-le, length-append, length-replicate, replicate-append-replicate}
 use Rattle.std.proofs.lemmas.Bool.{and_parts, and_from, leb-true, le-leb, ltb-true, lt-ltb}
-use Rattle.wire.specs.Exact.{Fields, fieldsBytes, certificateOf, StatementFits, Fits}
-use Rattle.wire.specs.Format.{certificateBytes}
+use Rattle.wire.specs.Exact.{Fields, fields_bytes, certificate_of, StatementFits, Fits}
+use Rattle.wire.specs.Format.{certificate_bytes}
 use Rattle.wire.specs.Numbers.{places}
 
 module _ (names : List ℕ) (few : length names ≤ 6) where
@@ -33,38 +33,38 @@ module _ (names : List ℕ) (few : length names ≤ 6) where
   places_behind : drop (length names) (places names) ≡ replicate (6 - length names) 0
   places_behind = ap (drop (length names)) padded ∙ drop_at names (replicate (6 - length names) 0) (length names) refl
 
-sensible-if : (st : Statement) → StatementFits st → someRight st ≡ true → Sensible st
+sensible-if : (st : Statement) → StatementFits st → has_some_right st ≡ true → Sensible st
 sensible-if (Name n) fits some = fits
 sensible-if (Rights set delegable) fits some = (ltb-true 0 set some, fits)
 
-sensible-fits : (st : Statement) → Sensible st → StatementFits st × (someRight st ≡ true)
+sensible-fits : (st : Statement) → Sensible st → StatementFits st × (has_some_right st ≡ true)
 sensible-fits (Name n) ok = (ok, refl)
 sensible-fits (Rights set delegable) ok = (ok.1, lt-ltb 0 set ok.0)
 
 -- what `inRange` tests
-in-range : (f : Fields) → in_range (certificateOf f) ≡ true →
-    (f.issuer ≤ 1023) × (f.house ≤ 1023) × (length f.names ≤ 6) × (someRight f.statement ≡ true)
+in-range : (f : Fields) → in_range (certificate_of f) ≡ true →
+    (f.issuer ≤ 1023) × (f.house ≤ 1023) × (length f.names ≤ 6) × (has_some_right f.statement ≡ true)
 in-range f ok =
-    let (issuer, ok₁) = and_parts (leb f.issuer 1023) (leb f.house 1023 && (leb (length f.names) 6 && someRight f.statement)) ok in
-    let (house, ok₂) = and_parts (leb f.house 1023) (leb (length f.names) 6 && someRight f.statement) ok₁ in
-    let (count, some) = and_parts (leb (length f.names) 6) (someRight f.statement) ok₂ in
+    let (issuer, ok₁) = and_parts (leb f.issuer 1023) (leb f.house 1023 && (leb (length f.names) 6 && has_some_right f.statement)) ok in
+    let (house, ok₂) = and_parts (leb f.house 1023) (leb (length f.names) 6 && has_some_right f.statement) ok₁ in
+    let (count, some) = and_parts (leb (length f.names) 6) (has_some_right f.statement) ok₂ in
     (leb-true f.issuer 1023 issuer, leb-true f.house 1023 house, leb-true (length f.names) 6 count, some)
 
-pub formed : (f : Fields) → Fits f → in_range (certificateOf f) ≡ true →
-    WellFormed (certificateOf f) × (certificateBytes (certificateOf f) ≡ fieldsBytes f)
+pub formed : (f : Fields) → Fits f → in_range (certificate_of f) ≡ true →
+    WellFormed (certificate_of f) × (certificate_bytes (certificate_of f) ≡ fields_bytes f)
 formed f fits ok =
     let (issuer, house, few, some) = in-range f ok in
     let front : take (length f.names) (places f.names) ≡ f.names = places-front f.names few in (
       record {
-        issuer-known = omega arith;
-        house-known = omega arith;
+        issuer_known = omega arith;
+        house_known = omega arith;
         first_fits = fits.first_fits;
         last_fits = fits.last_fits;
-        six-places = places-length f.names few;
-        few-names = few;
-        names-fit = rw front fits.names-fit;
-        zero-behind = places_behind f.names few;
-        sensible = sensible-if f.statement fits.statement-fits some;
+        six_places = places-length f.names few;
+        few_names = few;
+        names_fit = rw front fits.names_fit;
+        zero_behind = places_behind f.names few;
+        sensible = sensible-if f.statement fits.statement_fits some;
       },
       rw front,
     )
@@ -83,9 +83,9 @@ fields_of c = record {
 -- the fields fit, have values that they may have, and give the certificate and its bytes
 pub record Fields-of (c : Certificate) (f : Fields) : Type 0 where
   pub fits : Fits f
-  pub in-range : in_range (certificateOf f) ≡ true
-  pub same : certificateOf f ≡ c
-  pub same_bytes : certificateBytes c ≡ fieldsBytes f
+  pub in-range : in_range (certificate_of f) ≡ true
+  pub same : certificate_of f ≡ c
+  pub same_bytes : certificate_bytes c ≡ fields_bytes f
 
 pub fields-of : (c : Certificate) → WellFormed c → Fields-of c (fields_of c)
 fields-of c w =
@@ -97,18 +97,18 @@ fields-of c w =
     let back : places names ≡ array
     = padded names few
     ∙ (ap (λ n. names ++ replicate (6 - n) 0) long
-    ∙ (ap (λ xs. names ++ xs) (sym w.zero-behind)
+    ∙ (ap (λ xs. names ++ xs) (sym w.zero_behind)
     ∙ take-append-drop count array)) in
     let (fits, some) = sensible-fits c.statement w.sensible in
     record {
       fits = record {
-        issuer-fits = omega arith;
+        issuer_fits = omega arith;
         first_fits = w.first_fits;
         last_fits = w.last_fits;
-        house-fits = omega arith;
+        house_fits = omega arith;
         count_fits = omega arith;
-        names-fit = w.names-fit;
-        statement-fits = fits;
+        names_fit = w.names_fit;
+        statement_fits = fits;
       };
       in-range =
           and_from _ _ (le-leb c.issuer 1023 (omega arith))

@@ -8,10 +8,10 @@ use Rattle.std.proofs.lemmas.Bool.{eqb-true, eqb-false}
 use Rattle.std.specs.List.{flat_map, AllByRecursion as All}
 use Rattle.wire.proofs.Numerals.{number-part, byte-part, names-part}
 use Rattle.wire.proofs.Parts.{impossible, Part, both, turned, told-by, chosen, never}
-use Rattle.wire.specs.Exact.{fieldsBytes, certificateOf, StatementFits, Fits}
-use Rattle.wire.specs.Format.{statementBytes}
-use Rattle.wire.specs.Numbers.{bytes, takeNumber, and_then, places}
-use Rattle.wire.specs.Reading.{takeRights, takeStated, takeStatement, takeSubject, frame}
+use Rattle.wire.specs.Exact.{fields_bytes, certificate_of, StatementFits, Fits}
+use Rattle.wire.specs.Format.{statement_bytes}
+use Rattle.wire.specs.Numbers.{bytes, take_number, and_then, places}
+use Rattle.wire.specs.Reading.{take_rights, take_stated, take_statement, take_subject, frame}
 use Rattle.wire.specs.declared.numbers.Six.{Six}
 
 abbrev tag_of : Statement → ℕ
@@ -22,7 +22,7 @@ abbrev body_of : Statement → List ℕ
 body_of (Name name) = bytes 2 name
 body_of (Rights set delegable) = bytes 8 set
 
-tagged : (st : Statement) → tag_of st ∷ body_of st ≡ statementBytes st
+tagged : (st : Statement) → tag_of st ∷ body_of st ≡ statement_bytes st
 tagged (Name name) = refl
 tagged (Rights set delegable) = refl
 
@@ -35,7 +35,7 @@ small-tag (Rights set false) = omega arith
 abbrev Stated : ℕ → Statement → Type 0
 Stated tag st = (tag ≡ tag_of st) × StatementFits st
 
-name-part : (tag : ℕ) → tag ≡ 0 → Part (λ s. and_then (takeNumber 2 s) λ name rest. Some (Name name, rest)) (λ st. st) body_of (Stated tag)
+name-part : (tag : ℕ) → tag ≡ 0 → Part (λ s. and_then (take_number 2 s) λ name rest. Some (Name name, rest)) (λ st. st) body_of (Stated tag)
 name-part tag is = told-by (λ name fits. (Name name, (is, fits), refl, refl)) back (turned Name (number-part 2))
   where
     back : (st : Statement) → Stated tag st → (name : ℕ) × (name < 256 ^ 2) × (Name name ≡ st) × (bytes 2 name ≡ body_of st)
@@ -44,7 +44,7 @@ name-part tag is = told-by (λ name fits. (Name name, (is, fits), refl, refl)) b
     back (Rights set false) fits = impossible (omega arith)
 
 rights-part : (tag : ℕ) (delegable : Bool) → tag ≡ cond delegable 2 1 →
-    Part (λ s. takeRights s delegable) (λ st. st) body_of (Stated tag)
+    Part (λ s. take_rights s delegable) (λ st. st) body_of (Stated tag)
 rights-part tag delegable is = told-by
     (λ set fits. (Rights set delegable, (is, fits), refl, refl))
     (back delegable is)
@@ -59,7 +59,7 @@ rights-part tag delegable is = told-by
     back false is (Rights set true) fits = impossible (omega arith)
     back false is (Rights set false) fits = (set, fits.1, refl, refl)
 
-stated-part : (tag : ℕ) → Part (takeStated tag) (λ st. st) body_of (Stated tag)
+stated-part : (tag : ℕ) → Part (take_stated tag) (λ st. st) body_of (Stated tag)
 stated-part tag =
     chosen (eqb tag 0) (λ is. name-part tag (eqb-true tag 0 is)) λ not0.
     chosen (eqb tag 1) (λ is. rights-part tag false (eqb-true tag 1 is)) λ not1.
@@ -71,15 +71,15 @@ stated-part tag =
     other not0 not1 not2 (Rights set true) fits = eqb-false tag 2 not2 fits.0
     other not0 not1 not2 (Rights set false) fits = eqb-false tag 1 not1 fits.0
 
-statement-part : Part takeStatement (λ st. st) statementBytes StatementFits
-statement-part = told-by forth back (both takeStated byte-part stated-part)
+statement-part : Part take_statement (λ st. st) statement_bytes StatementFits
+statement-part = told-by forth back (both take_stated byte-part stated-part)
   where
     forth : (p : ℕ × Statement) → (p.0 < 256) × Stated p.0 p.1 →
-        (st : Statement) × StatementFits st × (p.1 ≡ st) × (p.0 ∷ body_of p.1 ≡ statementBytes st)
+        (st : Statement) × StatementFits st × (p.1 ≡ st) × (p.0 ∷ body_of p.1 ≡ statement_bytes st)
     forth p fits = (p.1, fits.1.1, refl, ap (λ b. b ∷ body_of p.1) fits.1.0 ∙ tagged p.1)
 
     back : (st : Statement) → StatementFits st →
-        (p : ℕ × Statement) × ((p.0 < 256) × Stated p.0 p.1) × (p.1 ≡ st) × (p.0 ∷ body_of p.1 ≡ statementBytes st)
+        (p : ℕ × Statement) × ((p.0 < 256) × Stated p.0 p.1) × (p.1 ≡ st) × (p.0 ∷ body_of p.1 ≡ statement_bytes st)
     back st fits = ((tag_of st, st), (small-tag st, (refl, fits)), refl, tagged st)
 
 -- a house and the names that follow it: their bytes, their subject, and when they fit
@@ -92,7 +92,7 @@ named_of p = record { house = p.0; names = places p.1; count = length p.1 }
 abbrev Named-fit : ℕ × List ℕ → Type 0
 Named-fit p = (p.0 < 2 ^ 16) × ((length p.1 < 2 ^ 8) × All (λ n. n < 2 ^ 16) p.1)
 
-subject-part : Part takeSubject named_of namedBytes Named-fit
+subject-part : Part take_subject named_of namedBytes Named-fit
 subject-part = told-by
     (λ p fits. ((p.0, p.1.1), (fits.0, (rw fits.1.1.0 fits.1.0, fits.1.1.1)), rw fits.1.1.0, rw fits.1.1.0))
     (λ p fits. ((p.0, (length p.1, p.1)), (fits.0, (fits.1.0, (refl, fits.1.1))), refl, refl))
@@ -100,25 +100,25 @@ subject-part = told-by
     turned {B = Subject} (λ (six : Six). record { house = house; names = six.numbers; count = count })
     (turned {B = Six} (λ numbers. record { numbers = places numbers }) (names-part count)))
 
-pub frame-part : Part frame certificateOf fieldsBytes Fits
+pub frame-part : Part frame certificate_of fields_bytes Fits
 frame-part = told-by
     (λ p fits. (
       record { issuer = p.0; first = p.1.0; last = p.1.1.0; house = p.1.1.1.0.0; names = p.1.1.1.0.1; statement = p.1.1.1.1 },
       record {
-        issuer-fits = fits.0;
+        issuer_fits = fits.0;
         first_fits = fits.1.0;
         last_fits = fits.1.1.0;
-        house-fits = fits.1.1.1.0.0;
+        house_fits = fits.1.1.1.0.0;
         count_fits = fits.1.1.1.0.1.0;
-        names-fit = fits.1.1.1.0.1.1;
-        statement-fits = fits.1.1.1.1;
+        names_fit = fits.1.1.1.0.1.1;
+        statement_fits = fits.1.1.1.1;
       },
       refl,
       refl,
     ))
     (λ f fits. (
       (f.issuer, (f.first, (f.last, ((f.house, f.names), f.statement)))),
-      (fits.issuer-fits, (fits.first_fits, (fits.last_fits, ((fits.house-fits, (fits.count_fits, fits.names-fit)), fits.statement-fits)))),
+      (fits.issuer_fits, (fits.first_fits, (fits.last_fits, ((fits.house_fits, (fits.count_fits, fits.names_fit)), fits.statement_fits)))),
       refl,
       refl,
     ))

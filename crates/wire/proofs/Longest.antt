@@ -9,11 +9,11 @@ use Rattle.wire.proofs.Exact.{Outcome, event, refused, stop, outcome, read_back,
 use Rattle.wire.proofs.Formed.{fields_of, fields-of}
 use Rattle.wire.proofs.Numerals.{length-bytes}
 use Rattle.wire.proofs.Parts.{impossible}
-use Rattle.wire.specs.Enough.{followedBy, Enough}
-use Rattle.wire.specs.Exact.{Writable, Fields, Fits, fieldsBytes}
-use Rattle.wire.specs.Format.{statementBytes, eventBytes}
+use Rattle.wire.specs.Enough.{followed_by, Enough}
+use Rattle.wire.specs.Exact.{Writable, Fields, Fits, fields_bytes}
+use Rattle.wire.specs.Format.{statement_bytes, bytes_of_event}
 use Rattle.wire.specs.Numbers.{bytes}
-use Rattle.wire.specs.Reading.{Reading, stopped, readEvent}
+use Rattle.wire.specs.Reading.{Reading, stopped, event_read}
 use Rattle.wire.specs.declared.events.Event.{Event}
 use Rattle.wire.specs.declared.events.Event.TheVariants.{Issued, Revoked, DayPassed}
 use Rattle.wire.specs.declared.faults.Fault.{Fault}
@@ -24,12 +24,12 @@ names-length [] = refl
 names-length (n ∷ names) =
     omega (arith, length-append (bytes 2 n) (flat_map (bytes 2) names), length-bytes 2 n, names-length names)
 
-statement-length : (st : Statement) → length (statementBytes st) ≤ 9
+statement-length : (st : Statement) → length (statement_bytes st) ≤ 9
 statement-length (Name name) = omega (arith, length-bytes 2 name)
 statement-length (Rights set delegable) = omega (arith, length-bytes 8 set)
 
 -- a kind, 13 bytes, at most 255 names of two bytes each, and at most 9 bytes of a statement
-fields-length : (f : Fields) → Fits f → length (1 ∷ fieldsBytes f) ≤ 533
+fields-length : (f : Fields) → Fits f → length (1 ∷ fields_bytes f) ≤ 533
 fields-length f fits =
     simp length-append
     (omega (
@@ -43,7 +43,7 @@ fields-length f fits =
       fits.count_fits,
     ))
 
-event-length : (e : Event) → Writable e → length (eventBytes e) ≤ 533
+event-length : (e : Event) → Writable e → length (bytes_of_event e) ≤ 533
 event-length (Issued c) w = let so = fields-of c w in rw so.same_bytes (fields-length (fields_of c) so.fits)
 event-length (Revoked number) w = omega (arith, length-bytes 2 number)
 event-length DayPassed w = omega arith
@@ -57,29 +57,29 @@ begins s more w rest long is =
 
 module _ (s more : List ℕ) (long : 533 ≤ length s) where
   -- where nothing can be read of s, nothing can with more bytes behind it
-  still : {r : Reading} → readEvent s ≡ stopped → Outcome (s ++ more) r → r ≡ stopped
+  still : {r : Reading} → event_read s ≡ stopped → Outcome (s ++ more) r → r ≡ stopped
   still none (event {e = e} {rest = rest} w is) =
-      let b = eventBytes e in
+      let b = bytes_of_event e in
       let short : length b ≤ length s = omega (arith, event-length e w) in
-      let read : readEvent s ≡ Ok (e, drop (length b) s)
-      = ap readEvent (begins s more b rest short is) ∙ read_back e w (drop (length b) s) in
+      let read : event_read s ≡ Ok (e, drop (length b) s)
+      = ap event_read (begins s more b rest short is) ∙ read_back e w (drop (length b) s) in
       impossible (cc)
   still none (refused {rest = rest} f fits out is) =
-      let b = 1 ∷ fieldsBytes f in
+      let b = 1 ∷ fields_bytes f in
       let short : length b ≤ length s = omega (arith, fields-length f fits) in
-      let read : readEvent s ≡ Err (OutOfRange, drop (length b) s)
-      = ap readEvent (begins s more b rest short is) ∙ rw (fields_read f fits (drop (length b) s), out) in
+      let read : event_read s ≡ Err (OutOfRange, drop (length b) s)
+      = ap event_read (begins s more b rest short is) ∙ rw (fields_read f fits (drop (length b) s), out) in
       let same : ◌≡◌ {A = Fault × List ℕ} (Malformed, []) (OutOfRange, drop (length b) s) = cc in
       let fault : Malformed ≡ OutOfRange = ap (λ p. p.0) same in
       impossible (cc)
   still none stop = refl
 
-  followed : {r : Reading} → All (λ b. b < 256) (s ++ more) → readEvent s ≡ r → Outcome s r → readEvent (s ++ more) ≡ followedBy more r
+  followed : {r : Reading} → All (λ b. b < 256) (s ++ more) → event_read s ≡ r → Outcome s r → event_read (s ++ more) ≡ followed_by more r
   followed small same (event {e = e} {rest = rest} w is) =
-      ap (λ t. readEvent (t ++ more)) is ∙ (ap readEvent (append_assoc (eventBytes e) rest more) ∙ read_back e w (rest ++ more))
+      ap (λ t. event_read (t ++ more)) is ∙ (ap event_read (append_assoc (bytes_of_event e) rest more) ∙ read_back e w (rest ++ more))
   followed small same (refused {rest = rest} f fits out is) =
-      ap (λ t. readEvent (t ++ more)) is
-      ∙ (ap (λ t. readEvent (1 ∷ t)) (append_assoc (fieldsBytes f) rest more) ∙ rw (fields_read f fits (rest ++ more), out))
+      ap (λ t. event_read (t ++ more)) is
+      ∙ (ap (λ t. event_read (1 ∷ t)) (append_assoc (fields_bytes f) rest more) ∙ rw (fields_read f fits (rest ++ more), out))
   followed small same stop = still same (outcome (s ++ more) small)
 
 pub enough : Enough

@@ -8,7 +8,7 @@ use Rattle.std.specs.List.{flat_map, AllByRecursion as All}
 use Rattle.std.specs.Int.Digits.{number_from_digits, AllBelowBase}
 use Rattle.wire.proofs.BigEndian.{number-bytes, bytes-number}
 use Rattle.wire.proofs.Parts.{impossible, Part, both, turned, told-by}
-use Rattle.wire.specs.Numbers.{bytes, takeNumber, takeNumbers}
+use Rattle.wire.specs.Numbers.{bytes, take_number, take_numbers}
 
 pub length-bytes : (k n : ℕ) → length (bytes k n) ≡ k
 unfolding bytes
@@ -22,7 +22,7 @@ under-getD s u i = elim (cases_lt i (length s)) [
 ]
 
 -- where a number was taken, there were as many bytes, and it is theirs
-taken-number : (k : ℕ) (s : List ℕ) (p : ℕ × List ℕ) → takeNumber k s ≡ Some p →
+taken-number : (k : ℕ) (s : List ℕ) (p : ℕ × List ℕ) → take_number k s ≡ Some p →
     (k ≤ length s) × (p ≡ (number_from_digits 256 (take k s), drop k s))
 taken-number k s p e = go (leb k (length s)) refl e
   where
@@ -31,7 +31,7 @@ taken-number k s p e = go (leb k (length s)) refl e
     go true is e = (leb-true k (length s) is, cc)
     go false is e = impossible (cc)
 
-pub number-part : (k : ℕ) → Part (takeNumber k) (λ n. n) (bytes k) (λ n. n < 256 ^ k)
+pub number-part : (k : ℕ) → Part (take_number k) (λ n. n) (bytes k) (λ n. n < 256 ^ k)
 number-part k = record {
   sound = λ s u n rest e.
       let (enough, is) = taken-number k s (n, rest) e in
@@ -50,12 +50,12 @@ number-part k = record {
       );
 }
 
-pub byte-taken : (b : ℕ) (rest : List ℕ) → takeNumber 1 (b ∷ rest) ≡ Some (b, rest)
+pub byte-taken : (b : ℕ) (rest : List ℕ) → take_number 1 (b ∷ rest) ≡ Some (b, rest)
 byte-taken b rest =
     let is : number_from_digits 256 (b ∷ []) ≡ b = omega arith in
     rw (le-leb 1 (length (b ∷ rest)) (omega arith), is)
 
-pub byte-part : Part (takeNumber 1) (λ b. b) (λ b. b ∷ []) (λ b. b < 256)
+pub byte-part : Part (take_number 1) (λ b. b) (λ b. b ∷ []) (λ b. b < 256)
 unfolding bytes
 byte-part = told-by (λ b small. (b, small, refl, is_byte b small)) (λ b small. (b, small, refl, is_byte b small)) (number-part 1)
   where
@@ -65,8 +65,8 @@ byte-part = told-by (λ b small. (b, small, refl, is_byte b small)) (λ b small.
 abbrev Names-fit : ℕ → List ℕ → Type 0
 Names-fit k names = (length names ≡ k) × All (λ n. n < 2 ^ 16) names
 
-pub names-part : (k : ℕ) → Part (takeNumbers k) (λ names. names) (flat_map (bytes 2)) (Names-fit k)
-unfolding takeNumbers
+pub names-part : (k : ℕ) → Part (take_numbers k) (λ names. names) (flat_map (bytes 2)) (Names-fit k)
+unfolding take_numbers
 names-part zero = record {
   sound = λ s u names rest e.
       let same : ◌≡◌ {A = List ℕ × List ℕ} ([], s) (names, rest) = cc in

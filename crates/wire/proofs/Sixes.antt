@@ -1,8 +1,8 @@
 -- Numbers read one after the other into six places. Assumes nothing.
 use Rattle.std.proofs.Common.{◌≡◌, ℕ, zero, suc, ◌+◌, ◌-◌, ◌<◌, ◌≤◌, Bool, true, false, cond, ltb, List, [], ◌∷◌, ◌++◌, length, take, set, replicate, Some, None, sym, refl, ap, ◌∙◌, append_assoc, append-nil, arith, length-append}
 use Rattle.std.proofs.lemmas.Bool.{ltb-true, ltb-false}
-use Rattle.wire.specs.Numbers.{Taken, takeNumber, and_then}
-use Rattle.wire.specs.Numbers.{takeNumbers, places, keepSix}
+use Rattle.wire.specs.Numbers.{Taken, take_number, and_then}
+use Rattle.wire.specs.Numbers.{take_numbers, places, keep_six}
 use Rattle.wire.specs.declared.numbers.Six.{Six}
 use lib.Seq.{take-append-le}
 
@@ -39,40 +39,40 @@ placed done n = go (ltb (length done) 6) refl
 module _ (count : ℕ) where
   -- the numbers taken so far, with those that are taken next
   abbrev pub with-done : List ℕ → Taken (List ℕ) → Taken Six
-  with-done done t = and_then t λ numbers rest. keepSix (done ++ numbers) rest
+  with-done done t = and_then t λ numbers rest. keep_six (done ++ numbers) rest
 
   -- after i turns: the array holds the numbers so far, and what is left gives the same as the whole
   pub record So-far (s : List ℕ) (i : ℕ) (array rest : List ℕ) : Type 0 where
     pub done : List ℕ
     pub many : length done ≡ i
     pub holds : array ≡ places done
-    pub same : and_then (takeNumbers count s) keepSix ≡ with-done done (takeNumbers (count - i) rest)
+    pub same : and_then (take_numbers count s) keep_six ≡ with-done done (take_numbers (count - i) rest)
 
   pub all_read : {s array rest : List ℕ} {i : ℕ} → So-far s i array rest → count ≤ i →
-      Some (record { numbers = array }, rest) ≡ and_then (takeNumbers count s) keepSix
-  unfolding takeNumbers
+      Some (record { numbers = array }, rest) ≡ and_then (take_numbers count s) keep_six
+  unfolding take_numbers
   all_read {s} {array} {rest} {i} so all =
       let none_left : count - i ≡ 0 = omega arith in
       sym (so.same ∙ rw (none_left, append-nil so.done, sym so.holds))
 
-  pub cut_short : {s array rest : List ℕ} {i : ℕ} → So-far s i array rest → i < count → None ≡ takeNumber 2 rest →
-      None ≡ and_then (takeNumbers count s) keepSix
-  unfolding takeNumbers
+  pub cut_short : {s array rest : List ℕ} {i : ℕ} → So-far s i array rest → i < count → None ≡ take_number 2 rest →
+      None ≡ and_then (take_numbers count s) keep_six
+  unfolding take_numbers
   cut_short {s} {array} {rest} {i} so more short =
       let left : count - i ≡ suc (count - i - 1) = omega arith in
       sym (so.same ∙ rw (left, sym short))
 
   -- one number more, which the array holds too if it has a place
-  pub one_more : {s array rest behind : List ℕ} {i n : ℕ} (more : List ℕ) (so : So-far s i array rest) → i < count → Some (n, behind) ≡ takeNumber 2 rest →
+  pub one_more : {s array rest behind : List ℕ} {i n : ℕ} (more : List ℕ) (so : So-far s i array rest) → i < count → Some (n, behind) ≡ take_number 2 rest →
       more ≡ places (so.done ++ (n ∷ [])) → So-far s (i + 1) more behind
-  unfolding takeNumbers
+  unfolding take_numbers
   one_more {s} {array} {rest} {behind} {i} {n} more so below taken holds =
       let left : count - i ≡ suc (count - (i + 1)) = omega arith in
       record {
         done = so.done ++ (n ∷ []);
         many = simp length-append (omega (arith, so.many));
         holds = holds;
-        same = so.same ∙ rw (left, sym taken) (onward (takeNumbers (count - (i + 1)) behind));
+        same = so.same ∙ rw (left, sym taken) (onward (take_numbers (count - (i + 1)) behind));
       }
     where
       onward : (t : Taken (List ℕ)) →

@@ -5,9 +5,9 @@ use Rattle.certificates.specs.declared.Certificate.{Certificate}
 use Rattle.certificates.specs.declared.Statement.{Statement}
 use Rattle.certificates.specs.declared.Statement.TheVariants.{Name, Rights}
 use Rattle.std.specs.List.{flat_map, AllByRecursion as All}
-use Rattle.wire.specs.Format.{statementBytes, eventBytes}
+use Rattle.wire.specs.Format.{statement_bytes, bytes_of_event}
 use Rattle.wire.specs.Numbers.{bytes, places}
-use Rattle.wire.specs.Reading.{Reading, readEvent}
+use Rattle.wire.specs.Reading.{Reading, event_read}
 use Rattle.wire.specs.declared.events.Event.{Event}
 use Rattle.wire.specs.declared.events.Event.TheVariants.{Issued, Revoked, DayPassed}
 use Rattle.wire.specs.declared.faults.Fault.{Fault}
@@ -20,8 +20,8 @@ Writable (Revoked number) = number < 2 ^ 16
 Writable DayPassed = Unit {0}
 
 -- What is written of an event is read as that event again, whatever follows it.
-abbrev pub Written-is-read : Type 0
-Written-is-read = (e : Event) → Writable e → (rest : List ℕ) → readEvent (eventBytes e ++ rest) ≡ Ok (e, rest)
+abbrev pub WrittenIsRead : Type 0
+WrittenIsRead = (e : Event) → Writable e → (rest : List ℕ) → event_read (bytes_of_event e ++ rest) ≡ Ok (e, rest)
 
 -- the fields of a certificate as they stand in its bytes, whatever their values and however many names there are
 pub record Fields : Type 0 where
@@ -32,13 +32,13 @@ pub record Fields : Type 0 where
   pub names : List ℕ
   pub statement : Statement
 
-abbrev pub fieldsBytes : Fields → List ℕ
-fieldsBytes f =
+abbrev pub fields_bytes : Fields → List ℕ
+fields_bytes f =
     bytes 2 f.issuer ++ (bytes 4 f.first ++ (bytes 4 f.last
-    ++ ((bytes 2 f.house ++ (length f.names ∷ flat_map (bytes 2) f.names)) ++ statementBytes f.statement)))
+    ++ ((bytes 2 f.house ++ (length f.names ∷ flat_map (bytes 2) f.names)) ++ statement_bytes f.statement)))
 
-abbrev pub certificateOf : Fields → Certificate
-certificateOf f = record {
+abbrev pub certificate_of : Fields → Certificate
+certificate_of f = record {
   issuer = f.issuer;
   subject = record { house = f.house; names = places f.names; count = length f.names };
   first = f.first;
@@ -52,19 +52,19 @@ StatementFits (Rights set delegable) = set < 2 ^ 64
 
 -- each field fits its bytes
 pub record Fits (f : Fields) : Type 0 where
-  pub issuer-fits : f.issuer < 2 ^ 16
+  pub issuer_fits : f.issuer < 2 ^ 16
   pub first_fits : f.first < 2 ^ 32
   pub last_fits : f.last < 2 ^ 32
-  pub house-fits : f.house < 2 ^ 16
+  pub house_fits : f.house < 2 ^ 16
   pub count_fits : length f.names < 2 ^ 8
-  pub names-fit : All (λ n. n < 2 ^ 16) f.names
-  pub statement-fits : StatementFits f.statement
+  pub names_fit : All (λ n. n < 2 ^ 16) f.names
+  pub statement_fits : StatementFits f.statement
 
 -- What reading some bytes gives, told by the bytes of events alone.
 pub record Exactly (s : List ℕ) (r : Reading) : Type 0 where
   -- an event and a rest, exactly where the bytes are those of the event and then the rest
-  pub reads : (e : Event) (rest : List ℕ) → (r ≡ Ok (e, rest)) ↔ (Writable e × (s ≡ eventBytes e ++ rest))
+  pub reads : (e : Event) (rest : List ℕ) → (r ≡ Ok (e, rest)) ↔ (Writable e × (s ≡ bytes_of_event e ++ rest))
   -- fault 2 and a rest, exactly where the bytes are those of a certificate with a value that it may not have, and then the rest
-  pub refuses : (rest : List ℕ) → (r ≡ Err (OutOfRange, rest)) ↔ ((f : Fields) × Fits f × (in_range (certificateOf f) ≡ false) × (s ≡ 1 ∷ (fieldsBytes f ++ rest)))
+  pub refuses : (rest : List ℕ) → (r ≡ Err (OutOfRange, rest)) ↔ ((f : Fields) × Fits f × (in_range (certificate_of f) ≡ false) × (s ≡ 1 ∷ (fields_bytes f ++ rest)))
   -- any other refusal is fault 1, and nothing more is read
   pub stops : (fault : Fault) (rest : List ℕ) → r ≡ Err (fault, rest) → (fault ≡ OutOfRange) ⊎ ((fault ≡ Malformed) × (rest ≡ []))

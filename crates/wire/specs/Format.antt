@@ -11,20 +11,20 @@ use Rattle.wire.specs.declared.events.Event.{Event}
 use Rattle.wire.specs.declared.events.Event.TheVariants.{Issued, Revoked, DayPassed}
 
 -- a house, how many names follow it, and each of these in two bytes
-abbrev pub subjectBytes : Subject → List ℕ
-subjectBytes s = bytes 2 s.house ++ (s.count ∷ flat_map (bytes 2) (names_of s))
+abbrev pub subject_bytes : Subject → List ℕ
+subject_bytes s = bytes 2 s.house ++ (s.count ∷ flat_map (bytes 2) (names_of s))
 
 -- a tag, then a name or a set of rights
-abbrev pub statementBytes : Statement → List ℕ
-statementBytes (Name name) = 0 ∷ bytes 2 name
-statementBytes (Rights set delegable) = cond delegable 2 1 ∷ bytes 8 set
+abbrev pub statement_bytes : Statement → List ℕ
+statement_bytes (Name name) = 0 ∷ bytes 2 name
+statement_bytes (Rights set delegable) = cond delegable 2 1 ∷ bytes 8 set
 
-abbrev pub certificateBytes : Certificate → List ℕ
-certificateBytes c =
-    bytes 2 c.issuer ++ (bytes 4 c.first ++ (bytes 4 c.last ++ (subjectBytes c.subject ++ statementBytes c.statement)))
+abbrev pub certificate_bytes : Certificate → List ℕ
+certificate_bytes c =
+    bytes 2 c.issuer ++ (bytes 4 c.first ++ (bytes 4 c.last ++ (subject_bytes c.subject ++ statement_bytes c.statement)))
 
 -- a kind, then what that kind asks for
-abbrev pub eventBytes : Event → List ℕ
-eventBytes (Issued c) = 1 ∷ certificateBytes c
-eventBytes (Revoked number) = 2 ∷ bytes 2 number
-eventBytes DayPassed = 3 ∷ []
+abbrev pub bytes_of_event : Event → List ℕ
+bytes_of_event (Issued c) = 1 ∷ certificate_bytes c
+bytes_of_event (Revoked number) = 2 ∷ bytes 2 number
+bytes_of_event DayPassed = 3 ∷ []

@@ -15,8 +15,8 @@ abbrev pub Taken : Type 0 → Type 0
 Taken A = Option (A × List ℕ)
 
 -- the next k bytes as a number
-abbrev pub takeNumber : ℕ → List ℕ → Taken ℕ
-takeNumber k s = cond (nat_le k (length s)) (Some (number_from_digits 256 (take k s), drop k s)) None
+abbrev pub take_number : ℕ → List ℕ → Taken ℕ
+take_number k s = cond (nat_le k (length s)) (Some (number_from_digits 256 (take k s), drop k s)) None
 
 -- one part after the other; nothing as soon as one is missing
 abbrev pub and_then : {A B : Type 0} → Taken A → (A → List ℕ → Taken B) → Taken B
@@ -24,16 +24,16 @@ and_then None next = None
 and_then (Some p) next = next p.0 p.1
 
 -- k numbers, of two bytes each
-unfoldable pub takeNumbers : ℕ → List ℕ → Taken (List ℕ)
-takeNumbers zero s = Some ([], s)
-takeNumbers (suc k) s = and_then (takeNumber 2 s) λ n rest. and_then (takeNumbers k rest) λ numbers behind. Some (n ∷ numbers, behind)
+unfoldable pub take_numbers : ℕ → List ℕ → Taken (List ℕ)
+take_numbers zero s = Some ([], s)
+take_numbers (suc k) s = and_then (take_number 2 s) λ n rest. and_then (take_numbers k rest) λ numbers behind. Some (n ∷ numbers, behind)
 
 -- six places: numbers in front, zeros behind them; a seventh number has no place
 abbrev pub places : List ℕ → List ℕ
 places numbers = take 6 (numbers ++ replicate 6 0)
 
-abbrev pub keepSix : List ℕ → List ℕ → Taken Six
-keepSix numbers rest = Some (record { numbers = places numbers }, rest)
+abbrev pub keep_six : List ℕ → List ℕ → Taken Six
+keep_six numbers rest = Some (record { numbers = places numbers }, rest)
 
 -- a reader's answer, with its part of the slice as a list
 abbrev pub split : {A : Type 0} → Option (A × Bor (List ℕ)) → Taken A

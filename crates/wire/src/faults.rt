@@ -1,6 +1,6 @@
 // Why something is refused, and what is told of it.
 ghost use Rattle.std.specs.Prelude.{◌≡◌, Some};
-ghost use Rattle.wire.specs.Faults.{toldOf, text_of};
+ghost use Rattle.wire.specs.Faults.{told_of, text_of};
 
 use std::fmt;
 
@@ -48,7 +48,7 @@ pub struct Told {
 
 impl Fault {
     pub fn told(self) -> Told
-        ensures { result ≡ toldOf self }
+        ensures { result ≡ told_of self }
     {
         let (number, line, step) = match self {
             Fault::Malformed => (1, None, None),

@@ -1,9 +1,9 @@
 // Laws of the bytes of events: nothing is computed here, each clause is a theorem that the check proves.
 ghost use Rattle.wire.specs.Enough.{Enough};
-ghost use Rattle.wire.specs.Exact.{Written-is-read};
+ghost use Rattle.wire.specs.Exact.{WrittenIsRead};
 
 // What is written of an event is read as that event again, and 533 bytes settle which event stands first.
 pub fn law_of_bytes()
-    ensures written_is_read { Written-is-read }
+    ensures written_is_read { WrittenIsRead }
     ensures enough { Enough }
 {}

@@ -1,7 +1,7 @@
 // Numbers as bytes, high byte first.
 ghost use Rattle.std.specs.Prelude.{◌≡◌, ◌+◌, ◌*◌, if◌then◌else◌, nat_lt, slice_set};
 ghost use Rattle.std.specs.Int.Digits.{number_from_digits};
-ghost use Rattle.wire.specs.Numbers.{takeNumber, takeNumbers, keepSix, and_then, split};
+ghost use Rattle.wire.specs.Numbers.{take_number, take_numbers, keep_six, and_then, split};
 
 // A byte as a number.
 fn u8_of(bytes: [u8; 1]) -> u8
@@ -40,7 +40,7 @@ fn u64_of(bytes: [u8; 8]) -> u64
 
 // The next byte, and what follows it; `None` where there is none.
 pub fn read_u8(bytes: &[u8]) -> Option<(u8, &[u8])>
-    ensures { split result ≡ takeNumber 1 bytes.now }
+    ensures { split result ≡ take_number 1 bytes.now }
 {
     let Some((front, rest)) = bytes.split_first_chunk::<1>() else {
         return None;
@@ -50,7 +50,7 @@ pub fn read_u8(bytes: &[u8]) -> Option<(u8, &[u8])>
 
 // The next two bytes as a number, and what follows them; `None` where there are fewer.
 pub fn read_u16(bytes: &[u8]) -> Option<(u16, &[u8])>
-    ensures { split result ≡ takeNumber 2 bytes.now }
+    ensures { split result ≡ take_number 2 bytes.now }
 {
     let Some((front, rest)) = bytes.split_first_chunk::<2>() else {
         return None;
@@ -60,7 +60,7 @@ pub fn read_u16(bytes: &[u8]) -> Option<(u16, &[u8])>
 
 // The next four bytes as a number, and what follows them; `None` where there are fewer.
 pub fn read_u32(bytes: &[u8]) -> Option<(u32, &[u8])>
-    ensures { split result ≡ takeNumber 4 bytes.now }
+    ensures { split result ≡ take_number 4 bytes.now }
 {
     let Some((front, rest)) = bytes.split_first_chunk::<4>() else {
         return None;
@@ -70,7 +70,7 @@ pub fn read_u32(bytes: &[u8]) -> Option<(u32, &[u8])>
 
 // The next eight bytes as a number, and what follows them; `None` where there are fewer.
 pub(crate) fn read_u64(bytes: &[u8]) -> Option<(u64, &[u8])>
-    ensures { split result ≡ takeNumber 8 bytes.now }
+    ensures { split result ≡ take_number 8 bytes.now }
 {
     let Some((front, rest)) = bytes.split_first_chunk::<8>() else {
         return None;
@@ -95,7 +95,7 @@ fn put(numbers: &mut [u16; 6], place: usize, number: u16)
 
 // As many numbers of two bytes as `count` says, and what follows them; those past the sixth are walked over.
 pub fn read_u16s(count: u8, bytes: &[u8]) -> Option<(Six, &[u8])>
-    ensures { split result ≡ and_then (takeNumbers count bytes.now) keepSix }
+    ensures { split result ≡ and_then (take_numbers count bytes.now) keep_six }
 {
     let mut numbers = [0; 6];
     let mut rest = bytes;

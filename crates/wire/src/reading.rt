@@ -1,7 +1,7 @@
 // Events from bytes. An event is framed first, that is, its kind and length are settled; then its values are looked at.
 ghost use Rattle.wire.specs.Exact.{Exactly};
 ghost use Rattle.wire.specs.Numbers.{split};
-ghost use Rattle.wire.specs.Reading.{takeSubject, takeStatement, takeRights, frame, looked, readEvent, reading_of};
+ghost use Rattle.wire.specs.Reading.{take_subject, take_statement, take_rights, frame, looked, event_read, reading_of};
 ghost use Rattle.std.specs.Prelude.{◌≡◌};
 
 use crate::events::Event;
@@ -19,7 +19,7 @@ pub struct Refusal<'a> {
 
 // What a certificate says: a tag, then a name or a set of rights.
 fn read_statement(bytes: &[u8]) -> Option<(Statement, &[u8])>
-    ensures { split result ≡ takeStatement bytes.now }
+    ensures { split result ≡ take_statement bytes.now }
 {
     let Some((tag, rest)) = read_u8(bytes) else {
         return None;
@@ -38,7 +38,7 @@ fn read_statement(bytes: &[u8]) -> Option<(Statement, &[u8])>
 }
 
 fn read_rights(bytes: &[u8], delegable: bool) -> Option<(Statement, &[u8])>
-    ensures { split result ≡ takeRights bytes.now delegable }
+    ensures { split result ≡ take_rights bytes.now delegable }
 {
     let Some((rights, rest)) = read_u64(bytes) else {
         return None;
@@ -47,7 +47,7 @@ fn read_rights(bytes: &[u8], delegable: bool) -> Option<(Statement, &[u8])>
 }
 
 fn read_subject(bytes: &[u8]) -> Option<(Subject, &[u8])>
-    ensures { split result ≡ takeSubject bytes.now }
+    ensures { split result ≡ take_subject bytes.now }
 {
     let Some((house, rest)) = read_u16(bytes) else {
         return None;
@@ -119,7 +119,7 @@ fn read_certificate(bytes: &[u8]) -> Result<(Event, &[u8]), Refusal<'_>>
 
 // The next event and what follows it, or why it is refused.
 pub fn read_event(bytes: &[u8]) -> Result<(Event, &[u8]), Refusal<'_>>
-    ensures value { reading_of result ≡ readEvent bytes.now }
+    ensures value { reading_of result ≡ event_read bytes.now }
     ensures exact { Exactly bytes.now (reading_of result) }
 {
     let stopped = Refusal {

@@ -3,7 +3,7 @@
 
 ghost use Rattle.std.specs.List.{flat_map};
 ghost use Rattle.std.specs.Prelude.{◌≡◌, ◌++◌, is_ok, IfOk, if◌then◌else◌, OnOk};
-ghost use Rattle.wire.specs.Format.{subjectBytes, statementBytes, certificateBytes, eventBytes};
+ghost use Rattle.wire.specs.Format.{subject_bytes, statement_bytes, certificate_bytes, bytes_of_event};
 ghost use Rattle.wire.specs.Numbers.{bytes};
 
 use certificates::{Certificate, MOST_NAMES, Statement, Subject};
@@ -38,7 +38,7 @@ fn push_names(out: &mut Vec<u8>, names: &[u16]) -> Result<(), AllocError>
 }
 
 fn push_subject(out: &mut Vec<u8>, subject: &Subject) -> Result<(), AllocError>
-    ensures { OnOk result (out.new.items ≡ out.old.items ++ subjectBytes subject.now) }
+    ensures { OnOk result (out.new.items ≡ out.old.items ++ subject_bytes subject.now) }
 {
     let many = usize::from(subject.count).min(MOST_NAMES);
     push_u16(out, subject.house)?;
@@ -48,7 +48,7 @@ fn push_subject(out: &mut Vec<u8>, subject: &Subject) -> Result<(), AllocError>
 }
 
 fn push_statement(out: &mut Vec<u8>, statement: Statement) -> Result<(), AllocError>
-    ensures { OnOk result (out.new.items ≡ out.old.items ++ statementBytes statement) }
+    ensures { OnOk result (out.new.items ≡ out.old.items ++ statement_bytes statement) }
 {
     match statement {
         Statement::Name(name) => {
@@ -64,7 +64,7 @@ fn push_statement(out: &mut Vec<u8>, statement: Statement) -> Result<(), AllocEr
 }
 
 fn push_certificate(out: &mut Vec<u8>, certificate: &Certificate) -> Result<(), AllocError>
-    ensures { OnOk result (out.new.items ≡ out.old.items ++ certificateBytes certificate.now) }
+    ensures { OnOk result (out.new.items ≡ out.old.items ++ certificate_bytes certificate.now) }
 {
     push_u16(out, certificate.issuer)?;
     push_u32(out, certificate.first)?;
@@ -76,7 +76,7 @@ fn push_certificate(out: &mut Vec<u8>, certificate: &Certificate) -> Result<(), 
 
 // The bytes of an event, as a new `Vec`; an error where there is no memory for it.
 pub fn event_bytes(heap: Global, event: &Event) -> Result<Vec<u8>, AllocError>
-    ensures { IfOk result (λ v. v.items ≡ eventBytes event.now) }
+    ensures { IfOk result (λ v. v.items ≡ bytes_of_event event.now) }
 {
     let mut out = Vec::new(heap);
     match event {

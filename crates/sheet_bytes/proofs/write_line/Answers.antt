@@ -1,20 +1,20 @@
 use Rattle.std.proofs.Common.{◌+◌, ap, ◌∙◌, arith}
-use Rattle.registry.specs.Numbered.{certificatesOf}
+use Rattle.registry.specs.Numbered.{certificates_of}
 use Rattle.sheet_bytes.proofs.Sizes.{line-length}
 use Rattle.sheet_bytes.proofs.Written.{line-written}
 use Rattle.sheet_bytes.proofs.write_line.Goals as goal
 
 pub write_u16-requires : goal.write_u16-requires
 write_u16-requires c =
-    omega (arith, c.requires, line-length (certificatesOf c.args.registry.now) c.args.line.now c.steps_of-steps.result.now c.steps_of-steps.ensures.value)
+    omega (arith, c.requires, line-length (certificates_of c.args.registry.now) c.args.line.now c.steps_of-steps.result.now c.steps_of-steps.ensures.value)
 
 pub write_u16s-requires : goal.write_u16s-requires
 write_u16s-requires c =
-    omega (arith, c.requires, c.write_u16.auto.out, line-length (certificatesOf c.args.registry.now) c.args.line.now c.steps_of-steps.result.now c.steps_of-steps.ensures.value)
+    omega (arith, c.requires, c.write_u16.auto.out, line-length (certificates_of c.args.registry.now) c.args.line.now c.steps_of-steps.result.now c.steps_of-steps.ensures.value)
 
 pub returns : goal.returns
 returns c =
-    let cs = certificatesOf c.args.registry.now in
+    let cs = certificates_of c.args.registry.now in
     let line = c.args.line.now in
     let steps = c.steps_of-steps.result.now in
     record {

@@ -1,10 +1,10 @@
 use Rattle.registry.proofs.Indexed.{Indexes, none-indexed}
 use Rattle.registry.proofs.Registry.empty.Goals as goal
-use Rattle.registry.specs.Keeping.{allInRange}
+use Rattle.registry.specs.Keeping.{all_in_range}
 use Rattle.std.proofs.Common.{length, vec_items, ap, ◌∙◌, arith}
 
 pub invariant_of-result : goal.invariant_of-result
-unfolding allInRange
+unfolding all_in_range
 invariant_of-result c =
     let none = c.requires.no_certificates in
     let no_names = c.requires.no_names in

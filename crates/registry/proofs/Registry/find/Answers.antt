@@ -3,7 +3,7 @@ use Rattle.registry.proofs.Lookup.{found, missing}
 use Rattle.registry.proofs.Order.{nowhere}
 use Rattle.registry.proofs.Registry.find.Goals as goal
 use Rattle.registry.specs.Index.{is_of, Place}
-use Rattle.registry.specs.Numbered.{certificatesOf}
+use Rattle.registry.specs.Numbered.{certificates_of}
 use Rattle.registry.specs.Rows.{row_of}
 use Rattle.registry.specs.declared.Registry.{Registry}
 use Rattle.std.proofs.lemmas.List.Elements.{at_read}
@@ -12,10 +12,10 @@ use Rattle.std.specs.List.{HoldsAt}
 -- where the name's own place has another entry or none, no certificate states it
 none-states : (g : Registry) (house name place : ℕ) → Place (vec_items g.index) house name place →
     (place < length (vec_items g.index) → HoldsAt (λ e. is_of e house name ≡ false) (vec_items g.index) place) →
-    row_of (certificatesOf g) house name ≡ length (certificatesOf g)
+    row_of (certificates_of g) house name ≡ length (certificates_of g)
 none-states g house name place at other =
     sym (g.agrees house name)
-    ∙ missing house name (length (certificatesOf g)) (vec_items g.index) (nowhere (vec_items g.index) g.rising house name place at other)
+    ∙ missing house name (length (certificates_of g)) (vec_items g.index) (nowhere (vec_items g.index) g.rising house name place at other)
 
 pub returns-then-place-len : goal.returns-then-place-len
 returns-then-place-len c =
@@ -29,7 +29,7 @@ returns-then-is_of c =
     let place = c.place-place.result in
     let entry = c.index.result.now in
     let within : place < length (vec_items g.index) = omega (arith, g.index.ok.0) in
-    let is = found c.args.house c.args.name (length (certificatesOf g)) (vec_items g.index) place entry c.place-place.ensures within c.index.ensures (sym c.if-is_of.ensures) in
+    let is = found c.args.house c.args.name (length (certificates_of g)) (vec_items g.index) place entry c.place-place.ensures within c.index.ensures (sym c.if-is_of.ensures) in
     (sym is ∙ g.agrees c.args.house c.args.name, rw (← c.index.ensures) at (g.numbers place entry (omega arith) within))
 
 pub returns-else-is_of : goal.returns-else-is_of

@@ -1,5 +1,5 @@
 use Rattle.std.proofs.Common.{sym, ap, ◌∙◌}
-use Rattle.registry.specs.Numbered.{certificatesOf}
+use Rattle.registry.specs.Numbered.{certificates_of}
 use Rattle.sheets.proofs.JudgedBy.{showing, judged-by}
 use Rattle.sheets.proofs.LinePassing.{last-known, sane-fact}
 use Rattle.sheets.proofs.Remembering.{remembers-more}
@@ -31,11 +31,11 @@ returns c facts remembers =
     let read = c.in_ok-line.ensures in
     let judged = c.in_ok-judge_then_note.ensures in
     let fact = fact_of line.certificate last in
-    let small = last-known (certificatesOf c.args.registry.now) _ _ c.args.number q.day q.right line last read.sound (sym judged.value) in (
+    let small = last-known (certificates_of c.args.registry.now) _ _ c.args.number q.day q.right line last read.sound (sym judged.value) in (
       fact,
       read.value q.day q.right facts
           ∙ ap (followed c.in_ok-line.rest.now) (judged-by remembers c.args.number q.day q.right line read.sound.ranged judged.paired
           ∙ ap (showing line.certificate) (sym judged.value)),
       rw (judged.names, judged.rights)
-          (remembers-more fact (sane-fact (certificatesOf c.args.registry.now) line.certificate last read.sound small) remembers),
+          (remembers-more fact (sane-fact (certificates_of c.args.registry.now) line.certificate last read.sound small) remembers),
     )

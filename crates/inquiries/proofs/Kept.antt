@@ -1,0 +1,69 @@
+-- What a sheet that is found, or that there is none, means after the deliveries by which a gate came about. Assumes nothing.
+use Rattle.std.proofs.Common.{◌≡◌, ℕ, ◌<◌, List, [], ◌∷◌, Some, Ok, Err, vec_items, Vec, Result, sym, ap, ◌∙◌, subst}
+use Rattle.certificates.specs.Certificates.{WellFormed}
+use Rattle.finding.specs.Asking.{question_of}
+use Rattle.finding.specs.Growing.{SheetWorth, HeadTold}
+use Rattle.finding.specs.Worth.{Allowed}
+use Rattle.finding.specs.declared.sheets_found.Unfound.{Unfound}
+use Rattle.finding.specs.declared.sheets_found.Unfound.TheVariants.{NoSheet, TooShort, Malformed, OutOfRange, NoMemory, WrongSize}
+use Rattle.inquiries.specs.Sheets.{AsksLike, ShutOut, Promised, SheetKept}
+use Rattle.promise.proofs.Promised.{main}
+use Rattle.promise.proofs.Ran.{Ran, ran}
+use Rattle.promise.specs.Happened.{happened, today}
+use Rattle.promise.specs.Promise.{Bytes, MayAfter}
+use Rattle.promise.specs.Requests.{take_head, receive, run}
+use Rattle.promise.specs.States.{State}
+use Rattle.promise.specs.declared.answers.Answer.TheVariants.{Open}
+use Rattle.promise.specs.declared.heads.Head.{Head}
+use Rattle.std.specs.List.{AllByRecursion as All}
+use Rattle.std.specs.declared.alloc.Global.{Global}
+use mathlib.Core.List.{Memᴰ}
+
+-- at the gate after the deliveries
+module _ (owner : ℕ) (ds : List (List ℕ)) (small : All Bytes ds) (h : Head) where
+  abbrev pub here : State
+  here = run owner ds
+
+  abbrev AllowedHere : Type 0
+  AllowedHere = Allowed here.certificates (question_of here.day here.owner h)
+
+  r : Ran owner ds here
+  r = ran owner ds small
+
+  may-after : AllowedHere → MayAfter ds h.right owner h.house
+  may-after may = (r.same-may (today (happened ds)) h.right h.house).0 (rw (r.same-owner, r.is-today) at may)
+
+  may-here : MayAfter ds h.right owner h.house → AllowedHere
+  may-here may = rw (r.same-owner, r.is-today) ((r.same-may (today (happened ds)) h.right h.house).1 may)
+
+  shut-out : owner < 1024 → (AllowedHere → ⊥) → ShutOut owner ds h
+  shut-out known none = record {
+    may_not = λ may. none (may-here may);
+    never_opens = λ d bytes asks opens.
+        let (h', rest, read, may) = (main.0 owner known ds small).only d bytes opens in
+        let same : Some (asks.head, asks.rest) ≡ Some (h', rest) = sym asks.read ∙ read in
+        let pairs : (asks.head, asks.rest) ≡ (h', rest) = cc in
+        let heads : asks.head ≡ h' = ap (λ (p : Head × List ℕ). p.0) pairs in
+        let house : h'.house ≡ h.house = sym (ap (λ (x : Head). x.house) heads) ∙ asks.same_house in
+        let right : h'.right ≡ h.right = sym (ap (λ (x : Head). x.right) heads) ∙ asks.same_right in
+        none (may-here (rw (house, right) at may));
+  }
+
+  kept-here : owner < 1024 → (result : Result (Vec ℕ Global) Unfound) → SheetWorth here.certificates (question_of here.day here.owner h) result → Promised owner ds h result
+  kept-here known (Ok whole) (may, opens) = (opens r.well, may-after may)
+  kept-here known (Err NoSheet) none = shut-out known none
+  kept-here known (Err NoMemory) worth = tt
+  kept-here known (Err OutOfRange) worth = tt
+  kept-here known (Err WrongSize) worth = tt
+  kept-here known (Err (TooShort needed)) worth = tt
+  kept-here known (Err Malformed) worth = tt
+
+worth-at : (g g' : State) → g ≡ g' → (h : Head) (result : Result (Vec ℕ Global) Unfound) →
+    SheetWorth g.certificates (question_of g.day g.owner h) result → SheetWorth g'.certificates (question_of g'.day g'.owner h) result
+worth-at g g' same h result worth = subst (λ (x : State). SheetWorth x.certificates (question_of x.day x.owner h) result) same worth
+
+pub sheet-kept : (g : State) → g.owner < 1024 → (asked : Result Head Unfound) (names numbers names' numbers' : List ℕ) (result : Result (Vec ℕ Global) Unfound) →
+    HeadTold g.certificates g.day g.owner names numbers names' numbers' result asked → SheetKept g asked result
+sheet-kept g known (Err e) names numbers names' numbers' result told = tt
+sheet-kept g known (Ok h) names numbers names' numbers' result told = λ ds small from.
+    kept-here g.owner ds small h known result (worth-at g (run g.owner ds) from h result told.1)

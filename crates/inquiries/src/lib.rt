@@ -1,0 +1,5 @@
+// What a house is told that asks at a gate without a sheet: its sheet, or the days on which it may.
+#![tactic(auto)]
+
+pub mod changes;
+pub mod sheets;
