@@ -9,6 +9,7 @@ pub mod delivery;
 pub mod event;
 pub mod fault;
 pub mod gate;
+pub mod inputs;
 pub mod literal;
 pub mod meaning;
 pub mod programs;

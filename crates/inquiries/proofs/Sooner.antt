@@ -39,7 +39,7 @@ module _ (day : ℕ) (cs : List Certificate) where
 
   changes-of : (r : Option ℕ) (n : ℕ) → n < length cs → NextOf day r (certificate_at cs n) → ChangesOn day r cs
   changes-of None n few s = tt
-  changes-of (Some next) n few (later, small, s, changed) = (n, few, changed)
+  changes-of (Some next) n few (later, small, s, changed) = (small, (n, few, changed))
 
   pub one-sooner : (next r : Option ℕ) (n : ℕ) → day < 2 ^ 32 → n < length cs → NextAmong day next cs n → NextOf day r (certificate_at cs n) → NextAmong day (sooner next r) cs (n + 1)
   one-sooner next r n fits few among of =

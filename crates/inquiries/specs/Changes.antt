@@ -27,7 +27,7 @@ until (Some next) = next
 -- some certificate changes on that day
 abbrev pub ChangesOn : ℕ → Option ℕ → List Certificate → Type 0
 ChangesOn day None cs = Unit {0}
-ChangesOn day (Some next) cs = (i : ℕ) × (i < length cs) × (valid next (certificate_at cs i) ≡ not (valid day (certificate_at cs i)))
+ChangesOn day (Some next) cs = (next < 2 ^ 32) × ((i : ℕ) × (i < length cs) × (valid next (certificate_at cs i) ≡ not (valid day (certificate_at cs i))))
 
 -- the next change among the first n certificates: until then each of them stays valid, or not
 pub record NextAmong (day : ℕ) (next : Option ℕ) (cs : List Certificate) (n : ℕ) : Type 0 where

@@ -1,2 +1,4 @@
 pub mod Sheets
 pub mod Changes
+pub mod Spans
+pub mod Days

@@ -2,4 +2,6 @@
 #![tactic(auto)]
 
 pub mod changes;
+pub mod days;
 pub mod sheets;
+pub mod spans;
