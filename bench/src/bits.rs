@@ -1,46 +1,66 @@
-//! Sets of numbers below 1,024: of houses, or of certificates.
+//! Sets of numbers below 1,024: of houses, or of turns.
 
 /// How many houses there are, and how many certificates there can be.
 pub const LIMIT: usize = 1024;
 pub const WORDS: usize = LIMIT / 64;
 
-#[derive(Clone, Copy, PartialEq, Eq, Debug, Default)]
-pub struct Bits(pub [u64; WORDS]);
+/// A plain array, so that memory for many empty sets is not touched before it is used.
+pub type Bits = [u64; WORDS];
 
-impl Bits {
-    pub const EMPTY: Bits = Bits([0; WORDS]);
-    pub const ALL: Bits = Bits([u64::MAX; WORDS]);
+pub const EMPTY: Bits = [0; WORDS];
+pub const ALL: Bits = [u64::MAX; WORDS];
 
-    pub fn only(number: u16) -> Bits {
-        let mut bits = Bits::EMPTY;
-        bits.insert(number);
-        bits
-    }
+pub fn only(number: u16) -> Bits {
+    let mut bits = EMPTY;
+    bits.insert(number);
+    bits
+}
 
-    #[inline]
-    pub fn has(&self, number: u16) -> bool {
-        self.0[usize::from(number) / 64] >> (number % 64) & 1 == 1
-    }
-
-    #[inline]
-    pub fn insert(&mut self, number: u16) {
-        self.0[usize::from(number) / 64] |= 1 << (number % 64);
-    }
-
-    #[inline]
-    pub fn remove(&mut self, number: u16) {
-        self.0[usize::from(number) / 64] &= !(1 << (number % 64));
-    }
-
-    pub fn is_empty(&self) -> bool {
-        self.0.iter().all(|&word| word == 0)
-    }
-
+pub trait Set {
+    fn has(&self, number: u16) -> bool;
+    fn insert(&mut self, number: u16);
+    fn remove(&mut self, number: u16);
+    fn is_empty(&self) -> bool;
+    fn len(&self) -> usize;
     /// Adds the numbers of another set, and says whether any of them is new.
+    fn join(&mut self, other: &Bits) -> bool;
+    fn and(self, other: &Bits) -> Bits;
+    fn without(self, other: &Bits) -> Bits;
+    /// The least number of the set that is not below `start`.
+    fn next_from(&self, start: usize) -> Option<u16>;
+    /// The numbers of the set, rising.
+    fn numbers(&self) -> impl Iterator<Item = u16>;
+}
+
+impl Set for Bits {
     #[inline]
-    pub fn join(&mut self, other: &Bits) -> bool {
+    fn has(&self, number: u16) -> bool {
+        self[usize::from(number) / 64] >> (number % 64) & 1 == 1
+    }
+
+    #[inline]
+    fn insert(&mut self, number: u16) {
+        self[usize::from(number) / 64] |= 1 << (number % 64);
+    }
+
+    #[inline]
+    fn remove(&mut self, number: u16) {
+        self[usize::from(number) / 64] &= !(1 << (number % 64));
+    }
+
+    #[inline]
+    fn is_empty(&self) -> bool {
+        self.iter().fold(0, |all, word| all | word) == 0
+    }
+
+    fn len(&self) -> usize {
+        self.iter().map(|word| word.count_ones() as usize).sum()
+    }
+
+    #[inline]
+    fn join(&mut self, other: &Bits) -> bool {
         let mut added = 0;
-        for (word, more) in self.0.iter_mut().zip(other.0) {
+        for (word, more) in self.iter_mut().zip(other) {
             added |= more & !*word;
             *word |= more;
         }
@@ -48,46 +68,31 @@ impl Bits {
     }
 
     #[inline]
-    pub fn and(mut self, other: &Bits) -> Bits {
-        for (word, more) in self.0.iter_mut().zip(other.0) {
-            *word &= more;
-        }
+    fn and(mut self, other: &Bits) -> Bits {
+        self.iter_mut().zip(other).for_each(|(word, more)| *word &= more);
         self
     }
 
     #[inline]
-    pub fn without(mut self, other: &Bits) -> Bits {
-        for (word, less) in self.0.iter_mut().zip(other.0) {
-            *word &= !less;
-        }
+    fn without(mut self, other: &Bits) -> Bits {
+        self.iter_mut().zip(other).for_each(|(word, less)| *word &= !less);
         self
     }
 
-    /// Which of the sixteen words have a number in them.
     #[inline]
-    pub fn words(&self) -> u16 {
-        let set = self.0.iter().enumerate();
-        set.fold(0, |words, (at, &word)| words | (u16::from(word != 0) << at))
-    }
-
-    /// The least number of the set that is not below `start`.
-    #[inline]
-    pub fn next_from(&self, start: usize) -> Option<u16> {
-        if start >= LIMIT {
-            return None;
-        }
+    fn next_from(&self, start: usize) -> Option<u16> {
         let mut at = start / 64;
-        let mut word = self.0[at] & (u64::MAX << (start % 64));
+        let mut word = self.get(at)? & (u64::MAX << (start % 64));
         while word == 0 {
             at += 1;
-            word = *self.0.get(at)?;
+            word = *self.get(at)?;
         }
         Some((at * 64) as u16 + word.trailing_zeros() as u16)
     }
 
-    /// The numbers of the set, rising.
-    pub fn iter(&self) -> impl Iterator<Item = u16> + '_ {
-        self.0.iter().enumerate().flat_map(|(at, &word)| {
+    #[inline]
+    fn numbers(&self) -> impl Iterator<Item = u16> {
+        self.iter().enumerate().flat_map(|(at, &word)| {
             let mut left = word;
             std::iter::from_fn(move || {
                 let bit = (left != 0).then(|| left.trailing_zeros() as u16)?;
@@ -96,4 +101,10 @@ impl Bits {
             })
         })
     }
+}
+
+/// Which of the sixteen words of a set have a number in them.
+#[inline]
+pub fn words(bits: &Bits) -> u16 {
+    bits.iter().enumerate().fold(0, |words, (at, &word)| words | (u16::from(word != 0) << at))
 }

@@ -1,6 +1,6 @@
 //! The check of a sheet, in one pass from front to end.
 
-use crate::bits::{Bits, LIMIT};
+use crate::bits::{only, Bits, Set, EMPTY, LIMIT};
 use crate::bytes::{pair, Reader};
 use crate::certificate::{Certificate, Statement};
 use crate::fault::{Cause, Fault};
@@ -16,15 +16,15 @@ pub struct Table {
 
 impl Default for Table {
     fn default() -> Table {
-        Table { rows: vec![Bits::EMPTY; LIMIT], passing: Bits::EMPTY, having: Bits::EMPTY }
+        Table { rows: vec![EMPTY; LIMIT], passing: EMPTY, having: EMPTY }
     }
 }
 
 impl Table {
     fn wipe(&mut self, rows: usize, owner: u16) {
-        self.rows[..rows].fill(Bits::EMPTY);
-        self.passing = Bits::only(owner);
-        self.having = Bits::EMPTY;
+        self.rows[..rows].fill(EMPTY);
+        self.passing = only(owner);
+        self.having = EMPTY;
     }
 }
 

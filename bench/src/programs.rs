@@ -4,7 +4,7 @@ use crate::check::{self, Table};
 use crate::delivery::{receive, Told};
 use crate::fault::Cause;
 use crate::gate::Gate;
-use crate::request::{Head, Question};
+use crate::request::{Asked, Head};
 use crate::schedule::{self, Schedule};
 use crate::spans::spans;
 use std::ffi::{OsStr, OsString};
@@ -57,11 +57,11 @@ pub fn find(
             Err(cause) => return refused(cause, out),
         };
         let Head { house, right, .. } = head;
-        let question = Question { day: gate.day, owner: gate.owner, house, right };
-        let Some(lines) = schedule::find(&gate.registry, &question, schedule) else {
+        let asked = Asked { owner: gate.owner, house, right };
+        let Some(lines) = schedule.find(&gate.registry, asked, gate.day) else {
             return refused(Cause::NoSheet, out);
         };
-        out.write_all(&schedule::write(&gate.registry, &question, &lines))?;
+        out.write_all(&schedule::write(&gate.registry, house, right, &lines))?;
         Ok(0)
     };
     told(run(out, err), err)
@@ -73,8 +73,8 @@ pub fn until(arguments: &[OsString], out: &mut dyn Write, err: &mut dyn Write) -
         let (gate, head) = asked(arguments, err)?;
         match head {
             Err(cause) => return refused(cause, out),
-            Ok(head) => {
-                for span in spans(&gate.registry, gate.owner, &head) {
+            Ok(Head { house, right, .. }) => {
+                for span in spans(&gate.registry, Asked { owner: gate.owner, house, right }) {
                     writeln!(out, "{span}")?;
                 }
             }

@@ -1,4 +1,4 @@
-//! Heads of requests, and what a finder asks.
+//! Heads of requests, and what they ask.
 
 use crate::bits::LIMIT;
 use crate::bytes::Reader;
@@ -17,10 +17,9 @@ pub struct Head {
     pub lines: u32,
 }
 
-/// Who asks for which right at whose gate, on which day.
+/// Who asks for which right at whose gate.
 #[derive(Clone, Copy, Debug)]
-pub struct Question {
-    pub day: u32,
+pub struct Asked {
     pub owner: u16,
     pub house: u16,
     pub right: u8,

@@ -1,7 +1,7 @@
 //! The spans of days on which a house may.
 
 use crate::registry::Registry;
-use crate::request::{Head, Question};
+use crate::request::Asked;
 use crate::schedule::fast::Finder;
 use std::fmt;
 
@@ -23,14 +23,13 @@ impl fmt::Display for Span {
 
 /// A sheet holds as long as all its certificates are valid; without one, nothing changes before
 /// another certificate becomes valid. So only some of the days need be looked at.
-pub fn spans(registry: &Registry, owner: u16, head: &Head) -> Vec<Span> {
-    let mut finder = Finder::default();
-    let firsts = first_days(registry);
+pub fn spans(registry: &Registry, asked: Asked) -> Vec<Span> {
+    let mut finder = Finder::new(registry, asked, |certificate| certificate.first <= certificate.last);
+    let firsts = first_days(registry, &finder);
     let mut spans: Vec<Span> = Vec::new();
     let mut next = Some(0);
     while let Some(day) = next {
-        let question = Question { day, owner, house: head.house, right: head.right };
-        let Some(lines) = finder.find(registry, &question) else {
+        let Some(lines) = finder.find(day) else {
             next = firsts.get(firsts.partition_point(|&first| first <= day)).copied();
             continue;
         };
@@ -45,11 +44,10 @@ pub fn spans(registry: &Registry, owner: u16, head: &Head) -> Vec<Span> {
     spans
 }
 
-/// The days on which a certificate becomes valid, rising.
-fn first_days(registry: &Registry) -> Vec<u32> {
-    let certificates = registry.certificates().iter();
-    let valid = certificates.filter(|certificate| certificate.first <= certificate.last);
-    let mut days: Vec<u32> = valid.map(|certificate| certificate.first).collect();
+/// The days on which a certificate that can matter becomes valid, rising.
+fn first_days(registry: &Registry, finder: &Finder) -> Vec<u32> {
+    let all = registry.certificates();
+    let mut days: Vec<u32> = finder.certificates().map(|number| all[usize::from(number)].first).collect();
     days.sort_unstable();
     days.dedup();
     days

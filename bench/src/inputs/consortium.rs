@@ -5,8 +5,8 @@ use crate::certificate::{Certificate, Statement, Subject};
 use crate::delivery::receive;
 use crate::gate::Gate;
 use crate::random::Random;
-use crate::request::Question;
-use crate::schedule::fast::Finder;
+use crate::request::Asked;
+use crate::schedule::Schedule;
 
 const HOUSES: usize = 70;
 const RESTORERS: u16 = 1;
@@ -84,14 +84,14 @@ fn rights(random: &mut Random, houses: &[u16]) -> Vec<Certificate> {
 
 /// Of some owners, rights and houses those with the longest sheet.
 fn longest(events: &[u8], houses: &[u16]) -> (u16, u16, u8) {
-    let mut finder = Finder::default();
     let mut best = (0, (houses[0], houses[0], 0));
     for &owner in &houses[..4] {
         let mut gate = Gate::new(owner);
         receive(&mut gate, events, |_| Ok(())).expect("reading from memory does not fail");
         for (right, house) in (0..16).flat_map(|right| houses.iter().map(move |&house| (right, house))) {
-            let question = Question { day: gate.day, owner, house, right };
-            let lines = finder.find(&gate.registry, &question).map_or(0, |lines| lines.len());
+            let asked = Asked { owner, house, right };
+            let found = Schedule::Fast.find(&gate.registry, asked, gate.day);
+            let lines = found.map_or(0, |lines| lines.len());
             best = best.max((lines, (owner, house, right)));
         }
     }

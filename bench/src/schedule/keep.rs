@@ -1,71 +1,40 @@
 //! Which lines a fact rests on.
 
-use super::plan::Plan;
-use super::shown::{name_row, Line, Shown, PASSING};
-use crate::certificate::Statement;
-use crate::registry::Registry;
+use super::plan::{Plan, Turn, PASSING};
+use super::shown::{Shown, Steps, Written};
+use super::Line;
+use crate::bits::{Bits, Set, EMPTY};
 
-/// The lines on which the fact for the asking house rests, in their order.
-pub fn kept(registry: &Registry, plan: &Plan, shown: &Shown) -> Option<Vec<Line>> {
-    let question = &plan.question;
-    let row = shown.fact_for(plan)?;
-    if row == PASSING && question.house == question.owner {
-        return Some(Vec::new());
-    }
-    let mut needed = Marks::new(shown.lines.len());
-    needed.mark(shown.line_of(row, question.house));
+/// The lines on which the fact for the asking house rests, in their order. Every line shows a new
+/// fact and rests on lines above it only, so one pass from the last line to the first is enough.
+pub fn kept(plan: &Plan, shown: &Shown) -> Option<Vec<Line>> {
+    let row = shown.wanted_row(plan)?;
+    let mut needed = vec![EMPTY; plan.rows];
+    needed[usize::from(row)].insert(plan.asked.house);
     let mut kept = Vec::new();
-    while let Some(number) = needed.take_last() {
-        let line = shown.lines[number];
-        mark_grounds(registry, question.owner, shown, &line, &mut needed);
-        kept.push(line);
+    for &Written { turn, house, steps } in shown.lines.iter().rev() {
+        let turn = &plan.turns[usize::from(turn)];
+        if needed[usize::from(turn.target)].has(house) {
+            need_grounds(plan, turn, &steps, &mut needed);
+            kept.push(Line { certificate: turn.certificate, steps });
+        }
     }
     kept.reverse();
     Some(kept)
 }
 
-/// Marks the lines that first showed a line's steps and its issuer's right.
-fn mark_grounds(registry: &Registry, owner: u16, shown: &Shown, line: &Line, needed: &mut Marks) {
-    let certificate = &registry.certificates()[usize::from(line.certificate)];
-    let mut house = certificate.subject.house;
-    for (&name, &next) in certificate.subject.names().iter().zip(&line.steps) {
-        if let Some(row) = name_row(registry, house, name) {
-            needed.mark(shown.line_of(row, next));
+/// A line's steps are needed, and its issuer's right.
+#[inline]
+fn need_grounds(plan: &Plan, turn: &Turn, steps: &Steps, needed: &mut [Bits]) {
+    if let Some(giver) = turn.giver {
+        needed[usize::from(PASSING)].insert(giver);
+    }
+    let Some(first_row) = turn.first_row else { return };
+    let mut row = first_row;
+    for (level, &house) in steps[..turn.count()].iter().enumerate() {
+        needed[usize::from(row)].insert(house);
+        if level + 1 < turn.count() {
+            row = plan.later(turn, level + 1).row(house);
         }
-        house = next;
-    }
-    let rights = matches!(certificate.statement, Statement::Rights { .. });
-    if rights && certificate.issuer != owner {
-        needed.mark(shown.line_of(PASSING, certificate.issuer));
-    }
-}
-
-/// Marks on lines. A line rests on lines above it only, so they are taken from the last to the first.
-struct Marks {
-    words: Vec<u64>,
-}
-
-impl Marks {
-    fn new(lines: usize) -> Marks {
-        Marks { words: vec![0; lines.div_ceil(64)] }
-    }
-
-    #[inline]
-    fn mark(&mut self, line: usize) {
-        self.words[line / 64] |= 1 << (line % 64);
-    }
-
-    /// Takes the last mark; only lines above it are marked later.
-    #[inline]
-    fn take_last(&mut self) -> Option<usize> {
-        while let Some(&word) = self.words.last() {
-            if word != 0 {
-                let bit = word.ilog2() as usize;
-                *self.words.last_mut()? ^= 1 << bit;
-                return Some((self.words.len() - 1) * 64 + bit);
-            }
-            self.words.pop();
-        }
-        None
     }
 }

@@ -77,9 +77,9 @@ fn events(random: &mut Random, world: &World, gate: &Gate) -> Vec<u8> {
 }
 
 fn ask(random: &mut Random, world: &World, gate: &Gate) -> Vec<u8> {
-    let question = sheets::question(random, world, gate);
+    let asked = sheets::asked(random, world, gate);
     let mut bytes = Vec::new();
-    Head { house: question.house, right: question.right, lines: 0 }.write(&mut bytes);
+    Head { house: asked.house, right: asked.right, lines: 0 }.write(&mut bytes);
     if random.percent(5) {
         damage(random, &mut bytes);
     }

@@ -6,9 +6,8 @@ use crate::delivery::{receive, Told};
 use crate::gate::Gate;
 use crate::literal;
 use crate::meaning::{changes, Meaning};
-use crate::request::{Head, Question};
-use crate::schedule::shown::Line;
-use crate::schedule::{self, Schedule};
+use crate::request::{Asked, Head};
+use crate::schedule::{self, Line, Schedule};
 use crate::spans::spans;
 use crate::trial::case::Case;
 use crate::trial::world::Size;
@@ -74,8 +73,8 @@ fn request_agrees(
     let answer = check::answer(gate, request, table);
     let mut from = Reader::new(request);
     let Ok(head) = Head::read(&mut from) else { return Ok(()) };
-    let question = Question { day: gate.day, owner: gate.owner, house: head.house, right: head.right };
-    let literal = literal::check(gate.registry.certificates(), &question, head.lines, from.rest);
+    let asked = Asked { owner: gate.owner, house: head.house, right: head.right };
+    let literal = literal::check(gate.registry.certificates(), &asked, gate.day, head.lines, from.rest);
     counts.requests += 1;
     counts.opened += usize::from(answer.is_ok());
     match answer == literal {
@@ -93,10 +92,10 @@ fn question_agrees(
     table: &mut Table,
     counts: &mut Counts,
 ) -> Result<(), String> {
-    let question = Question { day: gate.day, owner: gate.owner, house, right };
-    let told = |what: &str| Err(format!("{what}: {question:?}"));
-    let plain = schedule::find(&gate.registry, &question, Schedule::Plain);
-    let fast = schedule::find(&gate.registry, &question, Schedule::Fast);
+    let asked = Asked { owner: gate.owner, house, right };
+    let told = |what: &str| Err(format!("{what}: {asked:?}"));
+    let plain = Schedule::Plain.find(&gate.registry, asked, gate.day);
+    let fast = Schedule::Fast.find(&gate.registry, asked, gate.day);
     let certificates = gate.registry.certificates();
     counts.questions += 1;
     if plain != fast {
@@ -105,14 +104,14 @@ fn question_agrees(
     if plain.is_some() != Meaning::on(certificates, gate.day).may(gate.owner, right, house) {
         return told("a sheet is found for a house that may not, or the other way round");
     }
-    if case.size == Size::Tiny && !same(gate, &plain, &literal::find(certificates, &question)) {
+    if case.size == Size::Tiny && !same(gate, &plain, &literal::find(certificates, &asked, gate.day)) {
         return told("the sheet is not the one that is defined");
     }
     let Some(lines) = plain else { return Ok(()) };
     counts.found += 1;
     let place = lines.len().checked_ilog2().map_or(0, |log| log as usize + 1);
     counts.lines[place.min(11)] += 1;
-    let request = schedule::write(&gate.registry, &question, &lines);
+    let request = schedule::write(&gate.registry, house, right, &lines);
     match check::answer(gate, &request, table) {
         Ok(()) => Ok(()),
         Err(fault) => told(&format!("a sheet that was found is answered {fault}")),
@@ -130,7 +129,8 @@ fn same(gate: &Gate, found: &Option<Vec<Line>>, literal: &Option<Vec<literal::Li
 
 /// The spans have exactly the days on which the house may, looked at around every change.
 fn spans_agree(gate: &Gate, head: &Head, counts: &mut Counts) -> Result<(), String> {
-    let spans = spans(&gate.registry, gate.owner, head);
+    let asked = Asked { owner: gate.owner, house: head.house, right: head.right };
+    let spans = spans(&gate.registry, asked);
     let certificates = gate.registry.certificates();
     let changes = changes(certificates);
     let around = changes.iter().flat_map(|&day| [day.saturating_sub(1), day, day.saturating_add(1)]);

@@ -3,14 +3,13 @@
 use crate::certificate::MOST_NAMES;
 use crate::gate::Gate;
 use crate::random::Random;
-use crate::request::{Head, Question};
-use crate::schedule::shown::Line;
-use crate::schedule::{self, Schedule};
+use crate::request::{Asked, Head};
+use crate::schedule::{Line, Schedule};
 use crate::trial::damage::damage;
 use crate::trial::world::World;
 
 /// A house and right, mostly known ones.
-pub fn question(random: &mut Random, world: &World, gate: &Gate) -> Question {
+pub fn asked(random: &mut Random, world: &World, gate: &Gate) -> Asked {
     let house = match random.percent(3) {
         true => random.below(1024) as u16,
         false => random.pick(&world.houses),
@@ -19,19 +18,19 @@ pub fn question(random: &mut Random, world: &World, gate: &Gate) -> Question {
         true => random.below(64) as u8,
         false => random.pick(&world.rights),
     };
-    Question { day: gate.day, owner: gate.owner, house, right }
+    Asked { owner: gate.owner, house, right }
 }
 
 /// A request to the gate as it is.
 pub fn request(random: &mut Random, world: &World, gate: &Gate) -> Vec<u8> {
-    let mut question = question(random, world, gate);
+    let mut asked = asked(random, world, gate);
     let mut lines = None;
     for _ in 0..4 {
-        lines = schedule::find(&gate.registry, &question, Schedule::Fast);
+        lines = Schedule::Fast.find(&gate.registry, asked, gate.day);
         if lines.as_ref().is_some_and(|lines| !lines.is_empty()) {
             break;
         }
-        question.house = random.pick(&world.houses);
+        asked.house = random.pick(&world.houses);
     }
     let mut lines = lines.unwrap_or_default();
     if random.percent(50) {
@@ -40,12 +39,12 @@ pub fn request(random: &mut Random, world: &World, gate: &Gate) -> Vec<u8> {
         }
     }
     if random.percent(10) {
-        question.house = random.pick(&world.houses);
+        asked.house = random.pick(&world.houses);
     }
     if random.percent(5) {
-        question.right = random.pick(&world.rights);
+        asked.right = random.pick(&world.rights);
     }
-    let mut bytes = write(gate, &question, &lines);
+    let mut bytes = write(gate, &asked, &lines);
     if random.percent(15) {
         damage(random, &mut bytes);
     }
@@ -53,9 +52,9 @@ pub fn request(random: &mut Random, world: &World, gate: &Gate) -> Vec<u8> {
 }
 
 /// As `schedule::write`, but a line may have a number that no certificate has.
-fn write(gate: &Gate, question: &Question, lines: &[Line]) -> Vec<u8> {
+fn write(gate: &Gate, asked: &Asked, lines: &[Line]) -> Vec<u8> {
     let mut out = Vec::new();
-    Head { house: question.house, right: question.right, lines: lines.len() as u32 }.write(&mut out);
+    Head { house: asked.house, right: asked.right, lines: lines.len() as u32 }.write(&mut out);
     for line in lines {
         let known = gate.registry.certificates().get(usize::from(line.certificate));
         let count = known.map_or(1, |certificate| certificate.subject.names().len());

@@ -2,7 +2,19 @@
 ghost use Rattle.programs.specs.Arguments.{HouseText, house_of};
 ghost use Rattle.std.specs.Option.{SomeIff};
 
+use anyhow::anyhow;
 use certificates::LAST_HOUSE;
+use std::env;
+
+// The version of the programs.
+const VERSION: &str = "1.0.0";
+
+// What a program is asked to do with its files.
+#[derive(Drop)]
+pub struct Call {
+    pub owner: u16,
+    pub files: Vec<String>,
+}
 
 // The house that an argument names.
 pub fn parse_house(text: &str) -> Option<u16>
@@ -15,5 +27,34 @@ pub fn parse_house(text: &str) -> Option<u16>
         Some(house)
     } else {
         None
+    }
+}
+
+// Reads the arguments; none where the usage or the version was asked for, which is printed then.
+pub fn read_call(rt: &HostRuntime, name: &str, usage: &str) -> anyhow::Result<Option<Call>> {
+    let mut arguments = env::args(rt)?;
+    let _ = arguments.next();
+    let Some(first) = arguments.next() else {
+        return Err(anyhow!("usage: {name} {usage}"));
+    };
+    match first.as_str() {
+        "--help" => {
+            println!(rt; "usage: {name} {usage}")?;
+            Ok(None)
+        }
+        "--version" => {
+            println!(rt; "{name} {VERSION}")?;
+            Ok(None)
+        }
+        text => {
+            let Some(owner) = parse_house(text) else {
+                return Err(anyhow!("OWNER is a house, a number from 0 to {LAST_HOUSE}"));
+            };
+            let mut files = Vec::new(rt.alloc());
+            for file in arguments {
+                files.push(file)?;
+            }
+            Ok(Some(Call { owner, files }))
+        }
     }
 }

@@ -1,0 +1,23 @@
+// The program `find`: writes the request with the sheet that is found for it.
+use crate::requests::{read_inquiry, refuse};
+use inquiries::sheets::sheet_for;
+use std::io::Write;
+
+pub fn run(rt: &HostRuntime) -> anyhow::Result<bool> {
+    let Some(mut asked) = read_inquiry(rt, "find")? else {
+        return Ok(true);
+    };
+    match sheet_for(
+        rt.alloc(),
+        &asked.gate,
+        asked.names.as_mut_slice(),
+        asked.name_lines.as_mut_slice(),
+        asked.request.as_slice(),
+    ) {
+        Ok(whole) => {
+            rt.stdout().write_all(whole.as_slice())?;
+            Ok(true)
+        }
+        Err(unfound) => refuse(rt, unfound),
+    }
+}

@@ -1,0 +1,18 @@
+// Where in a piece of a delivery an event begins.
+use wire::reading::read_event;
+
+// The place where the event begins behind which so many bytes are left: the last that was read of the piece.
+pub(crate) fn begin_of(piece: &[u8], left: usize) -> usize {
+    let mut rest = piece;
+    for _ in 0..piece.len() {
+        let begin = piece.len().saturating_sub(rest.len());
+        rest = match read_event(rest) {
+            Ok((_, behind)) => behind,
+            Err(refusal) => refusal.rest,
+        };
+        if rest.len() <= left {
+            return begin;
+        }
+    }
+    0
+}

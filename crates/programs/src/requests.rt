@@ -1,0 +1,71 @@
+// Requests without lines, as the last of a program's files.
+use crate::arguments::{Call, read_call};
+use crate::deliveries::{new_gate, open_all, take_file};
+use crate::files::{open_file, read_on};
+use anyhow::anyhow;
+use finding::sheets_found::Unfound;
+use gates::Gate;
+use round_lines::lines::NUMBERS;
+use sheets::checking::MEMORY_WORDS;
+
+// The bytes of a request without lines; more of a file are not read than show that it has more.
+const REQUEST_BYTES: usize = 8;
+
+// A gate that took all deliveries, the request that follows them, and memory for finding.
+#[derive(Drop)]
+pub struct Inquiry {
+    pub gate: Gate,
+    pub request: Vec<u8>,
+    pub names: Vec<u64>,
+    pub name_lines: Vec<u32>,
+}
+
+// The front of a file that holds a request.
+fn read_request(rt: &HostRuntime, name: &str) -> anyhow::Result<Vec<u8>> {
+    let mut file = open_file(rt, name)?;
+    let mut bytes = Vec::new(rt.alloc());
+    for _ in 0..=REQUEST_BYTES {
+        if bytes.len() > REQUEST_BYTES || !read_on(&mut file, name, &mut bytes)? {
+            break;
+        }
+    }
+    Ok(bytes)
+}
+
+// Takes the deliveries, and reads the request.
+fn take_files(rt: &HostRuntime, call: &Call, name: &str) -> anyhow::Result<Inquiry> {
+    let [deliveries @ .., last] = call.files.as_slice() else {
+        return Err(anyhow!("usage: {name} OWNER FILE... REQUEST"));
+    };
+    open_all(rt, call.files.as_slice())?;
+    let mut gate = new_gate(rt, call.owner)?;
+    for file in deliveries {
+        gate = take_file(rt, gate, file.as_str())?;
+    }
+    let request = read_request(rt, last.as_str())?;
+    let names = vec![in rt.alloc(); 0u64; MEMORY_WORDS]?;
+    let name_lines = vec![in rt.alloc(); 0u32; NUMBERS]?;
+    Ok(Inquiry {
+        gate,
+        request,
+        names,
+        name_lines,
+    })
+}
+
+// What a program is asked; none where only its usage or version was asked for.
+pub fn read_inquiry(rt: &HostRuntime, name: &str) -> anyhow::Result<Option<Inquiry>> {
+    let Some(call) = read_call(rt, name, "OWNER FILE... REQUEST")? else {
+        return Ok(None);
+    };
+    Ok(Some(take_files(rt, &call, name)?))
+}
+
+// Prints the number of a refusal; want of memory has none.
+pub fn refuse(rt: &HostRuntime, unfound: Unfound) -> anyhow::Result<bool> {
+    let Some(fault) = unfound.fault() else {
+        return Err(anyhow!("out of memory"));
+    };
+    println!(rt; "{fault}")?;
+    Ok(false)
+}

@@ -1,0 +1,24 @@
+// The program `until`: prints the spans of days on which the house of a request may.
+use crate::requests::{read_inquiry, refuse};
+use inquiries::days::days_for;
+
+pub fn run(rt: &HostRuntime) -> anyhow::Result<bool> {
+    let Some(mut asked) = read_inquiry(rt, "until")? else {
+        return Ok(true);
+    };
+    match days_for(
+        rt.alloc(),
+        &asked.gate,
+        asked.names.as_mut_slice(),
+        asked.name_lines.as_mut_slice(),
+        asked.request.as_slice(),
+    ) {
+        Ok(spans) => {
+            for span in &spans {
+                println!(rt; "{span}")?;
+            }
+            Ok(true)
+        }
+        Err(unfound) => refuse(rt, unfound),
+    }
+}
