@@ -5,7 +5,7 @@ use Rattle.certificates.specs.declared.Certificate.{Certificate}
 use Rattle.certificates.specs.declared.Statement.{Statement}
 use Rattle.certificates.specs.declared.Statement.TheVariants.{Name, Rights}
 use Rattle.certificates.specs.declared.Subject.{Subject}
-use Rattle.std.specs.List.{AllByRecursion as All}
+use Rattle.std.specs.List.{AllByRecursion}
 
 -- the names that follow a subject's house: the front of its array
 abbrev pub names_of : Subject → List ℕ
@@ -58,6 +58,6 @@ pub record WellFormed (c : Certificate) : Type 0 where
   pub last_fits : c.last < 2 ^ 32
   pub six_places : length c.subject.names ≡ 6
   pub few_names : c.subject.count ≤ 6
-  pub names_fit : All (λ n. n < 2 ^ 16) (names_of c.subject)
+  pub names_fit : AllByRecursion (λ n. n < 2 ^ 16) (names_of c.subject)
   pub zero_behind : drop c.subject.count c.subject.names ≡ replicate (6 - c.subject.count) 0
   pub sensible : Sensible c.statement

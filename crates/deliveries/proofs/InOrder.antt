@@ -9,14 +9,14 @@ use Rattle.promise.specs.States.{State}
 use Rattle.promise.specs.declared.answers.Answer.{Answer}
 use Rattle.std.proofs.ByRecursion.{All-push}
 use Rattle.std.proofs.lemmas.List.{map-append, take_more, take-append-drop}
-use Rattle.std.specs.List.{AllByRecursion as All}
+use Rattle.std.specs.List.{AllByRecursion}
 use Rattle.std.specs.declared.alloc.Global.{Global}
 
 -- the gate, its answers and the lent memory after some deliveries
 pub record Along (g : State) (memory : List ℕ) (ds : List (List ℕ)) (g' : State) (answers : List Answer) (memory' : List ℕ) : Type 0 where
   pub same : (g', answers) ≡ receive_all g ds
   pub left : memory' ≡ left_by_all g ds memory
-  pub small : All Bytes ds
+  pub small : AllByRecursion Bytes ds
 
 pub none-along : (g : State) (memory : List ℕ) (answers : List Answer) → answers ≡ [] → Along g memory [] g answers memory
 unfolding receive_all left_by_all

@@ -15,7 +15,7 @@ use Rattle.sheets.specs.Checking.{known_houses, unshown, lines_checked, check_sh
 use Rattle.sheets.specs.Facts.{shown}
 use Rattle.sheets.specs.Laws.{Covers}
 use Rattle.sheets.specs.Sheets.{walks, reached, holds_from}
-use Rattle.std.specs.List.{AllByRecursion as All}
+use Rattle.std.specs.List.{AllByRecursion}
 use Rattle.turns.proofs.Members.{in-rising}
 use Rattle.turns.specs.Turns.{turn}
 use Rattle.turns.specs.Ways.{rising, meant_by, ways, first_to}
@@ -23,7 +23,7 @@ use Rattle.wire.specs.Numbers.{bytes, take_numbers}
 use mathlib.Core.List.Memᴰ
 use mathlib.Core.List.{Memᴰ}
 
-covered : (houses : ℕ) (cs : List Certificate) → All (λ (c : Certificate). c.subject.house < houses) cs → Covers (rising houses) cs
+covered : (houses : ℕ) (cs : List Certificate) → AllByRecursion (λ (c : Certificate). c.subject.house < houses) cs → Covers (rising houses) cs
 covered houses [] known c i = absurd (Memᴰ.not-nil i)
 covered houses (x ∷ cs) known c i = ⊎_elim
     (λ e. subst (λ (y : Certificate). Memᴰ y.subject.house (rising houses)) (sym e) (in-rising houses x.subject.house known.0))
@@ -38,7 +38,7 @@ may-decided cs day house covers (Some lines) is =
     ((λ some. sound cs day 3 1 house lines ((finds-lawfully 8 cs covers day 3 1).kept house lines is).hold), λ may. refl)
 
 module _ (r : Row) where
-  row : All (λ (c : Certificate). c.subject.house < 8) r.certificates →
+  row : AllByRecursion (λ (c : Certificate). c.subject.house < 8) r.certificates →
       length (rounds 8 r.certificates r.day 3 1) ≡ r.many →
       written 8 r.certificates r.day 3 1 ≡ r.lines →
       meant_by 8 (shown_at_end 8 r.certificates r.day 3 1) 1 r.name ≡ r.means →

@@ -50,9 +50,13 @@ module _ (cs : List Certificate) (covers : Covers (rising 1024) cs) (few : lengt
       HeadTold cs day owner names numbers names' numbers' (Ok whole) (bare_head request)
   whole-told names numbers names' numbers' whole (asked, grown, filled) =
       let s = sheeted (vec_items whole) grown in
-      rw is ((asked, s, filled),
-        (found-allowed cs q covers few s.lines s.found,
-        (λ well. rw s.whole_is (lines-open cs q covers few asked s.lines s.found well))))
+      rw is (
+        (asked, s, filled),
+        (
+          found-allowed cs q covers few s.lines s.found,
+          (λ well. rw s.whole_is (lines-open cs q covers few asked s.lines s.found well)),
+        ),
+      )
 
   reason-told : (names numbers before names' numbers' request' : List ℕ) (e : Unfound) → GrownAnswered cs q names numbers before names' numbers' request' (Err e) →
       SheetTold cs q names numbers names' numbers' (Err e) × SheetWorth cs q (Err e)

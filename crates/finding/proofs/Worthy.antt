@@ -18,7 +18,7 @@ use Rattle.sheets.specs.Passing.{askable}
 use Rattle.sheets.specs.Sheets.{Line}
 use Rattle.sheets.specs.declared.checking.Question.{Question}
 use Rattle.std.proofs.lemmas.Bool.{and_parts, leb-true}
-use Rattle.std.specs.List.{AllByRecursion as All}
+use Rattle.std.specs.List.{AllByRecursion}
 use Rattle.turns.specs.Ways.{rising}
 
 module _ (cs : List Certificate) (q : Question) (covers : Covers (rising 1024) cs) (few : length cs ≤ 1024) where
@@ -28,7 +28,7 @@ module _ (cs : List Certificate) (q : Question) (covers : Covers (rising 1024) c
   pub found-allowed : (lines : List Line) → sheet_for cs q ≡ Some lines → Allowed cs q
   found-allowed lines is = sound cs q.day q.right q.owner q.house lines (kept-lines lines is).hold
 
-  pub lines-open : askable q ≡ true → (lines : List Line) → sheet_for cs q ≡ Some lines → All WellFormed cs → (receive (gate_of cs q) (request_bytes q.house q.right lines)).1 ≡ Open ∷ []
+  pub lines-open : askable q ≡ true → (lines : List Line) → sheet_for cs q ≡ Some lines → AllByRecursion WellFormed cs → (receive (gate_of cs q) (request_bytes q.house q.right lines)).1 ≡ Open ∷ []
   lines-open asked lines is well =
       let (owner, rest) = and_parts (leb q.owner 1023) (leb q.house 1023 && leb q.right 63) asked in
       let (house, right) = and_parts (leb q.house 1023) (leb q.right 63) rest in

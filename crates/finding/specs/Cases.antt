@@ -9,7 +9,7 @@ use Rattle.rounds.specs.Rounds.{rounds, written, shown_at_end}
 use Rattle.sheets.specs.Bytes.{bytes_of_sheet}
 use Rattle.sheets.specs.Checking.{check_sheet}
 use Rattle.sheets.specs.Sheets.{Line}
-use Rattle.std.specs.List.{AllByRecursion as All}
+use Rattle.std.specs.List.{AllByRecursion}
 use Rattle.turns.specs.Ways.{meant_by}
 use Rattle.wire.specs.Numbers.{places}
 use Rattle.wire.specs.declared.faults.Fault.{Fault}
@@ -212,4 +212,4 @@ pub record ComesTrue (r : Row) : Type 0 where
   pub check_is : (check_sheet r.certificates r.day 3 1 r.house (length r.tried) (bytes_of_sheet r.tried)).1 ≡ r.checked
 
 abbrev pub AllComeTrue : Type 0
-AllComeTrue = All ComesTrue table
+AllComeTrue = AllByRecursion ComesTrue table

@@ -21,7 +21,7 @@ use Rattle.promise.specs.Promise.{request_bytes}
 use Rattle.promise.specs.Requests.{receive}
 use Rattle.promise.specs.declared.heads.Head.{Head}
 use Rattle.promise.specs.declared.answers.Answer.TheVariants.{Open}
-use Rattle.std.specs.List.{AllByRecursion as All}
+use Rattle.std.specs.List.{AllByRecursion}
 use Rattle.std.specs.declared.alloc.Global.{Global}
 
 -- the same reason
@@ -31,7 +31,7 @@ unsearched_of troubles.WrongSize = WrongSize
 unsearched_of troubles.OutOfRange = OutOfRange
 
 module _ (cs : List Certificate) (q : Question) where
-  -- All lines were found, with a mark for each that there can be; or there is a reason why not, and lent memory is as it was.
+  -- AllByRecursion lines were found, with a mark for each that there can be; or there is a reason why not, and lent memory is as it was.
   abbrev pub Searched : List ℕ → List ℕ → List ℕ → List ℕ → Result AllLines Unfound → Type 0
   Searched names numbers names' numbers' (Ok s) =
       Ready q names numbers
@@ -117,7 +117,7 @@ module _ (cs : List Certificate) (q : Question) where
 
   -- a request with its sheet is only for a house that may, and opens the gate of the owner; where there is no sheet the house may not
   abbrev pub SheetWorth : Result (Vec ℕ Global) Unfound → Type 0
-  SheetWorth (Ok whole) = Allowed cs q × (All WellFormed cs → (receive (gate_of cs q) (vec_items whole)).1 ≡ Open ∷ [])
+  SheetWorth (Ok whole) = Allowed cs q × (AllByRecursion WellFormed cs → (receive (gate_of cs q) (vec_items whole)).1 ≡ Open ∷ [])
   SheetWorth (Err NoSheet) = Allowed cs q → ⊥
   SheetWorth (Err NoMemory) = Unit {0}
   SheetWorth (Err OutOfRange) = Unit {0}

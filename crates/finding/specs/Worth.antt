@@ -13,7 +13,7 @@ use Rattle.promise.specs.States.{State}
 use Rattle.promise.specs.declared.answers.Answer.TheVariants.{Open}
 use Rattle.sheets.specs.Sheets.{Line}
 use Rattle.sheets.specs.declared.checking.Question.{Question}
-use Rattle.std.specs.List.{AllByRecursion as All}
+use Rattle.std.specs.List.{AllByRecursion}
 use Rattle.wire.specs.Numbers.{Taken}
 use Rattle.wire.specs.declared.faults.Fault.{Fault}
 use Rattle.wire.specs.declared.faults.Fault.TheVariants as faults
@@ -40,11 +40,11 @@ module _ (cs : List Certificate) (q : Question) where
   pub record Opens : Type 0 where
     pub lines : List Line
     pub found : sheet_for cs q ≡ Some lines
-    pub opens : All WellFormed cs → (receive gate_of (request_bytes q.house q.right lines)).1 ≡ Open ∷ []
+    pub opens : AllByRecursion WellFormed cs → (receive gate_of (request_bytes q.house q.right lines)).1 ≡ Open ∷ []
 
   -- what was written of the request opens that gate, and nothing behind it is needed
   abbrev pub WrittenOpens : List ℕ → Result ℕ Unfound → Type 0
-  WrittenOpens request' (Ok long) = All WellFormed cs → (receive gate_of (take long request')).1 ≡ Open ∷ []
+  WrittenOpens request' (Ok long) = AllByRecursion WellFormed cs → (receive gate_of (take long request')).1 ≡ Open ∷ []
   WrittenOpens request' (Err unfound) = Unit {0}
 
   -- A sheet is written only for a house that may, and opens the gate; without one the house may not.

@@ -3,7 +3,7 @@ ghost use Rattle.std.specs.Prelude.{◌≡◌, ℕ, ◌<◌, ◌≤◌, List, �
 ghost use Rattle.finding.specs.Asking.{SheetWritten, kept_by, told_of, RequestAnswered, Answered, head_of, HeadAnswered};
 ghost use Rattle.finding.specs.Worth.{Worth, WrittenOpens, RequestWorth, fault_of};
 ghost use Rattle.promise.specs.Promise.{Bytes};
-ghost use Rattle.promise.specs.declared.heads.Head.{Head as Head·logic};
+ghost use Rattle.promise.specs.declared.heads.Head.{Head as RequestHead};
 ghost use Rattle.keeping.specs.Marks.{picked};
 ghost use Rattle.registry.specs.Numbered.{certificates_of};
 ghost use Rattle.sheets.specs.Sheets.{Line};
@@ -183,7 +183,7 @@ pub fn find(
 ) -> Result<usize, Unfound>
     ensures answered { Answered (certificates_of registry.now) question.now names.old name_lines.old request.old names.new name_lines.new request.new result }
     ensures worth { Worth (certificates_of registry.now) question.now result }
-    ensures opens { Bytes request.old → (h : Head·logic) (rest : List ℕ) → head_of request.old ≡ Some (h, rest) → h.house ≡ question.now.house → h.right ≡ question.now.right → WrittenOpens (certificates_of registry.now) question.now request.new result }
+    ensures opens { Bytes request.old → (h : RequestHead) (rest : List ℕ) → head_of request.old ≡ Some (h, rest) → h.house ≡ question.now.house → h.right ≡ question.now.right → WrittenOpens (certificates_of registry.now) question.now request.new result }
 {
     find_and_write(heap, registry, question, names, name_lines, request)
 }

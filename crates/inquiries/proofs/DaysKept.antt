@@ -12,7 +12,7 @@ use Rattle.promise.specs.Promise.{Bytes}
 use Rattle.promise.specs.Requests.{run}
 use Rattle.promise.specs.States.{State}
 use Rattle.promise.specs.declared.heads.Head.{Head}
-use Rattle.std.specs.List.{AllByRecursion as All}
+use Rattle.std.specs.List.{AllByRecursion}
 use Rattle.std.specs.declared.alloc.Global.{Global}
 
 -- the same days for the same property
@@ -22,7 +22,7 @@ spans-as P Q spans same s = record {
   exact = λ day below. ((λ c. (same day).0 ((s.exact day below).0 c)), (λ q. (s.exact day below).1 ((same day).1 q)));
 }
 
-days-here : (owner : ℕ) (ds : List (List ℕ)) → All Bytes ds → (h : Head) (names numbers : List ℕ) (r : Result (Vec Span Global) Unfound) →
+days-here : (owner : ℕ) (ds : List (List ℕ)) → AllByRecursion Bytes ds → (h : Head) (names numbers : List ℕ) (r : Result (Vec Span Global) Unfound) →
     SpansTold (run owner ds).certificates (question_of (run owner ds).day owner h) names numbers r → DaysAfter owner ds h r
 days-here owner ds small h names numbers (Ok spans) told =
     let cs = (run owner ds).certificates in

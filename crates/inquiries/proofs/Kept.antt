@@ -15,12 +15,12 @@ use Rattle.promise.specs.Requests.{take_head, receive, run}
 use Rattle.promise.specs.States.{State}
 use Rattle.promise.specs.declared.answers.Answer.TheVariants.{Open}
 use Rattle.promise.specs.declared.heads.Head.{Head}
-use Rattle.std.specs.List.{AllByRecursion as All}
+use Rattle.std.specs.List.{AllByRecursion}
 use Rattle.std.specs.declared.alloc.Global.{Global}
 use mathlib.Core.List.{Memᴰ}
 
 -- at the gate after the deliveries
-module _ (owner : ℕ) (ds : List (List ℕ)) (small : All Bytes ds) (h : Head) where
+module _ (owner : ℕ) (ds : List (List ℕ)) (small : AllByRecursion Bytes ds) (h : Head) where
   abbrev pub here : State
   here = run owner ds
 

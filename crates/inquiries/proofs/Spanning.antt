@@ -107,7 +107,7 @@ module _ (P : ℕ → Type 0) where
       exact = split day next spans (Some day)
           (λ other less. ((λ known. (k.exact other less).0 (settled known less)), (λ p. inl (first_of_none ((k.exact other less).1 p)))))
           (λ other from below. ((λ known. (same other from below).1 (d.0 refl)), (λ p. inr from)));
-      }
+    }
       where
         settled : {other : ℕ} → Covered other spans ⊎ (day ≤ other) → other < day → Covered other spans ⊎ ⊥
         settled (inl c) less = inl c
@@ -117,12 +117,12 @@ module _ (P : ℕ → Type 0) where
       begun_before = let before = k.begun_before in omega arith;
       exact = split day next spans (Some first) k.exact
           (λ other from below. ((λ known. (same other from below).1 (d.0 refl)), (λ p. let before = k.begun_before in inr (omega arith))));
-      }
+    }
     step false spans None k d = record {
       apart = apart-more 0 spans day next (omega arith) k.apart;
       begun_before = tt;
       exact = split day next spans None k.exact (λ other from below. none-there spans day other k.apart (omega arith) d.1 from below);
-      }
+    }
     step false spans (Some first) k d =
         let s : Span = record { first = first; last = day - 1 } in
         let before = k.begun_before in
@@ -140,7 +140,7 @@ module _ (P : ℕ → Type 0) where
   finish last spans None is k = record {
     apart = apart-more 0 spans (2 ^ 32) (2 ^ 32 + 1) (omega arith) k.apart;
     exact = λ day below. ((λ c. (k.exact day below).0 (inl c)), (λ p. first_of_none ((k.exact day below).1 p)));
-    }
+  }
   finish last spans (Some first) is k =
       let s : Span = record { first = first; last = last } in
       let before = k.begun_before in

@@ -16,7 +16,7 @@ use Rattle.round_lines.specs.Lines.{right_size}
 use Rattle.sheets.specs.Passing.{askable}
 use Rattle.sheets.specs.declared.checking.Question.{Question}
 use Rattle.std.specs.Bool.{Decides}
-use Rattle.std.specs.List.{AllByRecursion as All}
+use Rattle.std.specs.List.{AllByRecursion}
 use Rattle.std.specs.declared.alloc.Global.{Global}
 
 -- the same question on another day
@@ -71,4 +71,4 @@ DaysAfter owner ds h (Err e) = Unit {0}
 -- Whatever the deliveries were by which the gate came about, and however many days passed in them.
 abbrev pub DaysKept : State → Result Head Unfound → Result (Vec Span Global) Unfound → Type 0
 DaysKept g (Err e) r = Unit {0}
-DaysKept g (Ok h) r = (ds : List (List ℕ)) → All Bytes ds → g ≡ run g.owner ds → DaysAfter g.owner ds h r
+DaysKept g (Ok h) r = (ds : List (List ℕ)) → AllByRecursion Bytes ds → g ≡ run g.owner ds → DaysAfter g.owner ds h r

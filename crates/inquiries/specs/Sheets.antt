@@ -7,7 +7,7 @@ use Rattle.promise.specs.Requests.{take_head, receive, run}
 use Rattle.promise.specs.States.{State}
 use Rattle.promise.specs.declared.answers.Answer.TheVariants.{Open}
 use Rattle.promise.specs.declared.heads.Head.{Head}
-use Rattle.std.specs.List.{AllByRecursion as All}
+use Rattle.std.specs.List.{AllByRecursion}
 use Rattle.std.specs.declared.alloc.Global.{Global}
 use mathlib.Core.List.{Memᴰ}
 
@@ -37,4 +37,4 @@ Promised owner ds h (Err Malformed) = Unit {0}
 -- Whatever the deliveries were by which the gate came about: what is found opens it, and where nothing is found the house is shut out.
 abbrev pub SheetKept : State → Result Head Unfound → Result (Vec ℕ Global) Unfound → Type 0
 SheetKept g (Err e) r = Unit {0}
-SheetKept g (Ok h) r = (ds : List (List ℕ)) → All Bytes ds → g ≡ run g.owner ds → Promised g.owner ds h r
+SheetKept g (Ok h) r = (ds : List (List ℕ)) → AllByRecursion Bytes ds → g ≡ run g.owner ds → Promised g.owner ds h r

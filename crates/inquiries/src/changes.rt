@@ -36,7 +36,7 @@ fn sooner(one: Option<u32>, other: Option<u32>) -> Option<u32>
 }
 
 // The next day, behind `day`, on which some certificate changes.
-pub fn next_change(registry: &Registry, day: u32) -> Option<u32>
+pub(crate) fn next_change(registry: &Registry, day: u32) -> Option<u32>
     ensures { NextChange day result (certificates_of registry.now) }
 {
     let mut next = None;

@@ -1,7 +1,7 @@
 // What a house is told that asks at a gate without a sheet: its sheet, or the days on which it may.
 #![tactic(auto)]
 
-pub mod changes;
+mod changes;
 pub mod days;
 pub mod sheets;
 pub mod spans;

@@ -11,13 +11,13 @@ const VERSION: &str = "1.0.0";
 
 // What a program is asked to do with its files.
 #[derive(Drop)]
-pub struct Call {
-    pub owner: u16,
-    pub files: Vec<String>,
+pub(crate) struct Call {
+    pub(crate) owner: u16,
+    pub(crate) files: Vec<String>,
 }
 
 // The house that an argument names.
-pub fn parse_house(text: &str) -> Option<u16>
+pub(crate) fn parse_house(text: &str) -> Option<u16>
     ensures { SomeIff result (HouseText text.now) (house_of text.now) }
 {
     let Ok(house) = text.parse::<u16>() else {
@@ -31,7 +31,7 @@ pub fn parse_house(text: &str) -> Option<u16>
 }
 
 // Reads the arguments; none where the usage or the version was asked for, which is printed then.
-pub fn read_call(rt: &HostRuntime, name: &str, usage: &str) -> anyhow::Result<Option<Call>> {
+pub(crate) fn read_call(rt: &HostRuntime, name: &str, usage: &str) -> anyhow::Result<Option<Call>> {
     let mut arguments = env::args(rt)?;
     let _ = arguments.next();
     let Some(first) = arguments.next() else {

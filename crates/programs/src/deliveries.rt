@@ -11,7 +11,7 @@ use std::mem;
 
 // Where refused events are told.
 #[derive(Clone, Copy, PartialEq, Eq)]
-pub enum Telling {
+pub(crate) enum Telling {
     // on standard output, by their number
     Answers,
     // on standard error, with the file and the place where they begin
@@ -27,7 +27,7 @@ fn answers_held(telling: Telling) -> usize {
 }
 
 // A gate of `owner`, as it begins.
-pub fn new_gate(rt: &HostRuntime, owner: u16) -> anyhow::Result<Gate> {
+pub(crate) fn new_gate(rt: &HostRuntime, owner: u16) -> anyhow::Result<Gate> {
     match Gate::new(rt.alloc(), owner) {
         Ok(gate) => Ok(gate),
         Err(trouble) => Err(anyhow!("{trouble}")),
@@ -35,7 +35,7 @@ pub fn new_gate(rt: &HostRuntime, owner: u16) -> anyhow::Result<Gate> {
 }
 
 // Fails where a file can't be opened, before anything is printed.
-pub fn open_all(rt: &HostRuntime, files: &[String]) -> anyhow::Result<()> {
+pub(crate) fn open_all(rt: &HostRuntime, files: &[String]) -> anyhow::Result<()> {
     for name in files {
         let _ = open_file(rt, name.as_str())?;
     }
@@ -70,7 +70,7 @@ fn tell(
 }
 
 // Takes the events of a file piece by piece; no more is held than a piece and what an event needs.
-pub fn take_events(
+pub(crate) fn take_events(
     rt: &HostRuntime,
     mut gate: Gate,
     telling: Telling,
@@ -118,7 +118,7 @@ pub fn take_events(
 }
 
 // Takes the events of a file; a request in it changes nothing.
-pub fn take_file(rt: &HostRuntime, gate: Gate, name: &str) -> anyhow::Result<Gate> {
+pub(crate) fn take_file(rt: &HostRuntime, gate: Gate, name: &str) -> anyhow::Result<Gate> {
     let mut file = open_file(rt, name)?;
     let mut bytes = Vec::new(rt.alloc());
     let _ = read_on(&mut file, name, &mut bytes)?;

@@ -1,12 +1,12 @@
 // What the programs share, and what each of them does.
 #![tactic(auto)]
 
-pub mod arguments;
-pub mod deliveries;
+mod arguments;
+mod deliveries;
 pub mod ending;
-pub mod files;
+mod files;
 pub mod find;
 pub mod gate;
-pub mod places;
-pub mod requests;
+mod places;
+mod requests;
 pub mod until;

@@ -13,11 +13,11 @@ const REQUEST_BYTES: usize = 8;
 
 // A gate that took all deliveries, the request that follows them, and memory for finding.
 #[derive(Drop)]
-pub struct Inquiry {
-    pub gate: Gate,
-    pub request: Vec<u8>,
-    pub names: Vec<u64>,
-    pub name_lines: Vec<u32>,
+pub(crate) struct Inquiry {
+    pub(crate) gate: Gate,
+    pub(crate) request: Vec<u8>,
+    pub(crate) names: Vec<u64>,
+    pub(crate) name_lines: Vec<u32>,
 }
 
 // The front of a file that holds a request.
@@ -54,7 +54,7 @@ fn take_files(rt: &HostRuntime, call: &Call, name: &str) -> anyhow::Result<Inqui
 }
 
 // What a program is asked; none where only its usage or version was asked for.
-pub fn read_inquiry(rt: &HostRuntime, name: &str) -> anyhow::Result<Option<Inquiry>> {
+pub(crate) fn read_inquiry(rt: &HostRuntime, name: &str) -> anyhow::Result<Option<Inquiry>> {
     let Some(call) = read_call(rt, name, "OWNER FILE... REQUEST")? else {
         return Ok(None);
     };
@@ -62,7 +62,7 @@ pub fn read_inquiry(rt: &HostRuntime, name: &str) -> anyhow::Result<Option<Inqui
 }
 
 // Prints the number of a refusal; want of memory has none.
-pub fn refuse(rt: &HostRuntime, unfound: Unfound) -> anyhow::Result<bool> {
+pub(crate) fn refuse(rt: &HostRuntime, unfound: Unfound) -> anyhow::Result<bool> {
     let Some(fault) = unfound.fault() else {
         return Err(anyhow!("out of memory"));
     };

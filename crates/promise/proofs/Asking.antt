@@ -17,7 +17,7 @@ use Rattle.sheets.specs.Sheets.{Line, holds}
 use Rattle.std.proofs.lemmas.Nat.{mod_below}
 use Rattle.std.proofs.ByRecursion.{All-push, All-append}
 use Rattle.std.proofs.lemmas.Bool.{le-leb}
-use Rattle.std.specs.List.{flat_map, AllByRecursion as All}
+use Rattle.std.specs.List.{flat_map, AllByRecursion}
 use Rattle.wire.specs.Numbers.{bytes}
 use lib.ListN.{length-map}
 
@@ -46,7 +46,7 @@ module _ (g : State) (few : length g.certificates ≤ 1024) (house right : ℕ) 
       let (lines, held, most) = complete cs (subjectHouses cs) (subjects-covered cs) g.day right g.owner house may in
       (lines, record { held = held; short = omega (arith, simp length-map at most, mul-le-mul_left (length cs) few) })
 
-  pub lets-in : All WellFormed g.certificates → house < 1024 → right < 64 → (lines : List Line) → Sheet g house right lines →
+  pub lets-in : AllByRecursion WellFormed g.certificates → house < 1024 → right < 64 → (lines : List Line) → Sheet g house right lines →
       (receive g (request_bytes house right lines)).1 ≡ Open ∷ []
   lets-in well known small lines s =
       let cs = g.certificates in

@@ -9,7 +9,7 @@ use Rattle.promise.specs.Happened.{days_in, issued_in}
 use Rattle.registry.proofs.Kept.{length-revoked}
 use Rattle.std.proofs.ByRecursion.{All-push}
 use Rattle.std.proofs.lemmas.List.{length_push}
-use Rattle.std.specs.List.{AllByRecursion as All}
+use Rattle.std.specs.List.{AllByRecursion}
 use Rattle.wire.specs.Exact.{Writable}
 use Rattle.wire.specs.declared.events.Event.{Event}
 use Rattle.wire.specs.declared.events.Event.TheVariants.{Issued, Revoked, DayPassed}
@@ -27,7 +27,7 @@ revoked-well c w = record {
   sensible = w.sensible;
 }
 
-revokeAt-well : (i : ℕ) (cs : List Certificate) → All WellFormed cs → All WellFormed (revoke_at i cs)
+revokeAt-well : (i : ℕ) (cs : List Certificate) → AllByRecursion WellFormed cs → AllByRecursion WellFormed (revoke_at i cs)
 unfolding revoke_at
 revokeAt-well i [] well = tt
 revokeAt-well zero (c ∷ cs) well = (revoked-well c well.0, well.1)
@@ -45,7 +45,7 @@ module _ (events : List Event) where
   CountIs n g = length (afterEvents g events).certificates ≡ min n 1024
 
   abbrev StaysWell : State → Type 0
-  StaysWell g = All WellFormed (afterEvents g events).certificates
+  StaysWell g = AllByRecursion WellFormed (afterEvents g events).certificates
 
 pub owner-after : (g : State) (events : List Event) → OwnerIs events g.owner g
 unfolding afterEvents
@@ -82,7 +82,7 @@ count-after g (Revoked n ∷ events) few =
 count-after g (DayPassed ∷ events) few =
     once-passed g (CountIs events (length g.certificates + issued_in events)) (λ next. count-after (onDay g (g.day + 1)) events few) (λ last. count-after g events few)
 
-pub well-after : (g : State) (events : List Event) → All Writable events → All WellFormed g.certificates → StaysWell events g
+pub well-after : (g : State) (events : List Event) → AllByRecursion Writable events → AllByRecursion WellFormed g.certificates → StaysWell events g
 unfolding afterEvents
 well-after g [] writable well = well
 well-after g (Issued c ∷ events) writable well =

@@ -7,7 +7,7 @@ use Rattle.promise.specs.States.{State}
 use Rattle.promise.specs.declared.answers.Answer.{Answer}
 use Rattle.promise.specs.declared.answers.Answer.TheVariants.{Open}
 use Rattle.std.proofs.ByRecursion.{All-append, All-push}
-use Rattle.std.specs.List.{AllByRecursion as All}
+use Rattle.std.specs.List.{AllByRecursion}
 use mathlib.Core.List.{Memᴰ}
 
 -- what is known of an answer that was given
@@ -25,7 +25,7 @@ pub one-after : (g : State) (ds : List (List ℕ)) (d : List ℕ) → (receive_a
 unfolding receive_all
 one-after g ds d = more-after g ds (d ∷ [])
 
-every-kept : (owner : ℕ) → owner < 1024 → (ds : List (List ℕ)) → All Bytes ds → (g : State) → g ≡ run owner ds → AllLetIn owner ds g
+every-kept : (owner : ℕ) → owner < 1024 → (ds : List (List ℕ)) → AllByRecursion Bytes ds → (g : State) → g ≡ run owner ds → AllLetIn owner ds g
 every-kept owner known ds all g from house right small small-right may =
     let (lines, opens, few) = (main.0 owner known ds all).every house right small small-right may in
     (lines, ap (λ (h : State). (receive h (request_bytes house right lines)).1) from ∙ opens, few)
@@ -44,7 +44,7 @@ answer-kept g d answered known small is lines begins ds all from opens =
     let same : (receive g d).1 ≡ answer g d ∷ [] = rw begins in
     (promise-kept g d (receive g d).0 (receive g d).1 known small refl).only ds all from (rw same (Memᴰ.head (sym opens ∙ is)))
 
-each-kept : (owner : ℕ) → owner < 1024 → (before ds : List (List ℕ)) → All Bytes before → All Bytes ds → (g : State) → g ≡ run owner before →
+each-kept : (owner : ℕ) → owner < 1024 → (before ds : List (List ℕ)) → AllByRecursion Bytes before → AllByRecursion Bytes ds → (g : State) → g ≡ run owner before →
     EachLetIn owner before ds (receive_all g ds).1
 unfolding receive_all EachLetIn
 each-kept owner known before [] small-before small g from = refl
@@ -59,7 +59,7 @@ each-kept owner known before (d ∷ ds) small-before small g from = (
       (ap (λ (h : State). (receive h d).0) from ∙ sym (one-after _ before d)),
 )
 
-pub all-kept : (g : State) (ds : List (List ℕ)) (g' : State) (answers : List Answer) → g.owner < 1024 → All Bytes ds → (g', answers) ≡ receive_all g ds → KeptAll g ds g' answers
+pub all-kept : (g : State) (ds : List (List ℕ)) (g' : State) (answers : List Answer) → g.owner < 1024 → AllByRecursion Bytes ds → (g', answers) ≡ receive_all g ds → KeptAll g ds g' answers
 all-kept g ds g' answers known small is =
     let goes : (before : List (List ℕ)) → g ≡ run g.owner before → g' ≡ run g.owner (before ++ ds)
     = λ before from. ap (λ (p : State × List Answer). p.0) is ∙ (ap (λ (h : State). (receive_all h ds).0) from ∙ sym (more-after _ before ds)) in

@@ -11,17 +11,17 @@ use Rattle.promise.specs.States.{State, fresh_gate}
 use Rattle.promise.specs.Happened.{happened, today, standing, came}
 use Rattle.promise.specs.Promise.{Bytes}
 use Rattle.promise.specs.Requests.{run}
-use Rattle.std.specs.List.{AllByRecursion as All}
+use Rattle.std.specs.List.{AllByRecursion}
 
 -- the gate has the owner, counts the days and has as many certificates as came; by these, on any day, those may who may by the standing ones
 pub record Ran (owner : ℕ) (ds : List (List ℕ)) (g : State) : Type 0 where
   pub same-owner : g.owner ≡ owner
   pub is-today : g.day ≡ today (happened ds)
   pub all-came : length g.certificates ≡ came (happened ds)
-  pub well : All WellFormed g.certificates
+  pub well : AllByRecursion WellFormed g.certificates
   pub same-may : (day right house : ℕ) → May g.certificates day right owner house ↔ May (standing (happened ds)) day right owner house
 
-pub ran : (owner : ℕ) (ds : List (List ℕ)) → All Bytes ds → Ran owner ds (run owner ds)
+pub ran : (owner : ℕ) (ds : List (List ℕ)) → AllByRecursion Bytes ds → Ran owner ds (run owner ds)
 ran owner ds small =
     let events = happened ds in
     let new = fresh_gate owner in

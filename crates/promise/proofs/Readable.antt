@@ -1,11 +1,11 @@
--- All events that deliveries hold can be written: their certificates are well formed. Assumes nothing.
+-- AllByRecursion events that deliveries hold can be written: their certificates are well formed. Assumes nothing.
 use Rattle.std.proofs.Common.{ℕ, zero, suc, eqb, List, [], ◌∷◌, length, Ok, Err, refl, ap, inl, inr}
 use Rattle.promise.specs.Happened.{noted, read_on, events_within, events_of, happened}
 use Rattle.promise.specs.Promise.{Bytes}
 use Rattle.sheets.proofs.LineRead.{bytes_rest}
 use Rattle.std.proofs.ByRecursion.{All-append}
 use Rattle.std.proofs.lemmas.Bool.{cond_both}
-use Rattle.std.specs.List.{AllByRecursion as All}
+use Rattle.std.specs.List.{AllByRecursion}
 use Rattle.wire.proofs.Exact.{exactly}
 use Rattle.wire.specs.Exact.{Writable, Exactly, fields_bytes}
 use Rattle.wire.specs.Format.{bytes_of_event}
@@ -23,11 +23,11 @@ module _ (s : List ℕ) where
     | inr stop ↦ rw stop.1 tt
   ]
 
-  noted-writable : (r : Reading) → Exactly s r → (events : List Event) → All Writable events → All Writable (noted r events)
+  noted-writable : (r : Reading) → Exactly s r → (events : List Event) → AllByRecursion Writable events → AllByRecursion Writable (noted r events)
   noted-writable (Ok p) exact events behind = (((exact.reads p.0 p.1).0 refl).0, behind)
   noted-writable (Err e) exact events behind = behind
 
-within-writable : (n : ℕ) (s : List ℕ) → Bytes s → All Writable (events_within n s)
+within-writable : (n : ℕ) (s : List ℕ) → Bytes s → AllByRecursion Writable (events_within n s)
 unfolding events_within
 within-writable zero s small = tt
 within-writable (suc n) [] small = tt
@@ -36,10 +36,10 @@ within-writable (suc n) (b ∷ s) small =
     let exact = exactly (b ∷ s) small in
     noted-writable (b ∷ s) r exact (events_within n (read_on r)) (within-writable n (read_on r) (rest-bytes (b ∷ s) r exact small))
 
-events-writable : (d : List ℕ) → Bytes d → All Writable (events_of d)
+events-writable : (d : List ℕ) → Bytes d → AllByRecursion Writable (events_of d)
 events-writable [] small = tt
-events-writable (b ∷ s) small = cond_both (eqb b 4) _ _ (All Writable) (λ request. tt) (λ events. within-writable (length (b ∷ s)) (b ∷ s) small)
+events-writable (b ∷ s) small = cond_both (eqb b 4) _ _ (AllByRecursion Writable) (λ request. tt) (λ events. within-writable (length (b ∷ s)) (b ∷ s) small)
 
-pub happened-writable : (ds : List (List ℕ)) → All Bytes ds → All Writable (happened ds)
+pub happened-writable : (ds : List (List ℕ)) → AllByRecursion Bytes ds → AllByRecursion Writable (happened ds)
 happened-writable [] small = tt
 happened-writable (d ∷ ds) small = All-append Writable (events_of d) (happened ds) (events-writable d small.0) (happened-writable ds small.1)

@@ -9,13 +9,13 @@ use Rattle.promise.specs.declared.answers.Answer.{Answer}
 use Rattle.promise.specs.declared.answers.Answer.TheVariants.{Open}
 use Rattle.sheets.specs.Bytes.{bytes_of_sheet}
 use Rattle.sheets.specs.Sheets.{Line}
-use Rattle.std.specs.List.{AllByRecursion as All}
+use Rattle.std.specs.List.{AllByRecursion}
 use Rattle.wire.specs.Numbers.{bytes}
 use mathlib.Core.List.{Memᴰ}
 
 -- a delivery is a list of bytes
 abbrev pub Bytes : List ℕ → Type 0
-Bytes d = All (λ b. b < 256) d
+Bytes d = AllByRecursion (λ b. b < 256) d
 
 -- the bytes of a request with its sheet
 abbrev pub request_bytes : ℕ → ℕ → List Line → List ℕ
@@ -42,19 +42,19 @@ pub record Promised (owner : ℕ) (ds : List (List ℕ)) : Type 0 where
 
 -- together with: more certificates never take a right away, and an owner that issued nothing gave nothing to anybody else
 abbrev pub Main : Type 0
-Main = ((owner : ℕ) → owner < 1024 → (ds : List (List ℕ)) → All Bytes ds → Promised owner ds) × (Grows × FromOwner)
+Main = ((owner : ℕ) → owner < 1024 → (ds : List (List ℕ)) → AllByRecursion Bytes ds → Promised owner ds) × (Grows × FromOwner)
 
 -- What a gate keeps when it takes a delivery d: whatever the deliveries ds were by which it came about,
 -- it is then the gate after one more, who is let in may, and whoever may had a request with which they are let in.
 pub record KeptPromise (g : State) (d : List ℕ) (g' : State) (answers : List Answer) : Type 0 where
   pub goes_on : (ds : List (List ℕ)) → g ≡ run g.owner ds → g' ≡ run g.owner (ds ++ (d ∷ []))
-  pub only : (ds : List (List ℕ)) → All Bytes ds → g ≡ run g.owner ds → Memᴰ Open answers → LetIn g.owner ds d
-  pub every : (ds : List (List ℕ)) → All Bytes ds → g ≡ run g.owner ds → AllLetIn g.owner ds g
+  pub only : (ds : List (List ℕ)) → AllByRecursion Bytes ds → g ≡ run g.owner ds → Memᴰ Open answers → LetIn g.owner ds d
+  pub every : (ds : List (List ℕ)) → AllByRecursion Bytes ds → g ≡ run g.owner ds → AllLetIn g.owner ds g
 
 -- What a gate keeps when it answers a request d: whatever the deliveries ds were by which it came about, who is let in may.
 abbrev pub KeptAnswer : State → List ℕ → Answer → Type 0
 KeptAnswer g d answered =
-    (lines : List ℕ) → d ≡ 4 ∷ lines → (ds : List (List ℕ)) → All Bytes ds → g ≡ run g.owner ds → answered ≡ Open → LetIn g.owner ds d
+    (lines : List ℕ) → d ≡ 4 ∷ lines → (ds : List (List ℕ)) → AllByRecursion Bytes ds → g ≡ run g.owner ds → answered ≡ Open → LetIn g.owner ds d
 
 -- the answers to some deliveries that follow others: those to the first, by which whoever is let in may, then those to the rest
 unfoldable pub EachLetIn : ℕ → List (List ℕ) → List (List ℕ) → List Answer → Type 0
@@ -66,5 +66,5 @@ EachLetIn owner before (d ∷ ds) answers =
 -- What a gate keeps when it takes the deliveries ds, one after the other, behind those by which it came about (none, for a new gate).
 pub record KeptAll (g : State) (ds : List (List ℕ)) (g' : State) (answers : List Answer) : Type 0 where
   pub goes_on : (before : List (List ℕ)) → g ≡ run g.owner before → g' ≡ run g.owner (before ++ ds)
-  pub only : (before : List (List ℕ)) → All Bytes before → g ≡ run g.owner before → EachLetIn g.owner before ds answers
-  pub every : (before : List (List ℕ)) → All Bytes before → g ≡ run g.owner before → AllLetIn g.owner (before ++ ds) g'
+  pub only : (before : List (List ℕ)) → AllByRecursion Bytes before → g ≡ run g.owner before → EachLetIn g.owner before ds answers
+  pub every : (before : List (List ℕ)) → AllByRecursion Bytes before → g ≡ run g.owner before → AllLetIn g.owner (before ++ ds) g'

@@ -7,11 +7,11 @@ use Rattle.sheets.proofs.Slots.{subjectHouses}
 use Rattle.sheets.specs.Sheets.{never, certificate_at}
 use Rattle.std.proofs.ByRecursion.{All-get_or}
 use Rattle.std.proofs.lemmas.List.{length-take-le}
-use Rattle.std.specs.List.{AllByRecursion as All}
+use Rattle.std.specs.List.{AllByRecursion}
 use mathlib.Core.List.Memᴰ
 use mathlib.Core.List.{Memᴰ}
 
-module _ (cs : List Certificate) (formed : All WellFormed cs) where
+module _ (cs : List Certificate) (formed : AllByRecursion WellFormed cs) where
   formed-at : (i : ℕ) → i < length cs → WellFormed (certificate_at cs i)
   formed-at i below = All-get_or WellFormed cs i never below formed
 

@@ -13,7 +13,7 @@ use Rattle.sheets.specs.Facts.{Fact}
 use Rattle.sheets.specs.Sheets.{Line, certificate_at, shows}
 use Rattle.std.proofs.ByRecursion.{All-weaker}
 use Rattle.std.proofs.lemmas.Bool.{ltb-true, lt-ltb}
-use Rattle.std.specs.List.{flat_map, AllByRecursion as All}
+use Rattle.std.specs.List.{flat_map, AllByRecursion}
 use Rattle.wire.proofs.Numerals.{number-part, names-part}
 use Rattle.wire.specs.Numbers.{bytes, Taken, take_number, take_numbers}
 use Rattle.wire.specs.declared.faults.Fault.{Fault}
@@ -21,7 +21,7 @@ use Rattle.wire.specs.declared.faults.Fault.TheVariants.{LineUnknown}
 
 -- each number is a byte
 abbrev pub Bytes : List ℕ → Type 0
-Bytes s = All (λ b. b < 256) s
+Bytes s = AllByRecursion (λ b. b < 256) s
 
 pub bytes_rest : (w rest : List ℕ) → Bytes (w ++ rest) → Bytes rest
 bytes_rest [] rest small = small
@@ -65,7 +65,7 @@ module _ (cs : List Certificate) (day right : ℕ) where
         let (below, h) = passed (ltb q.0 (length cs)) _ (LineUnknown line) p e in
         (q, refl, ltb-true q.0 (length cs) below, h)
 
-    pub line_read : All WellFormed cs → (s : List ℕ) → Bytes s → (p : Fact × List ℕ) → line_checked cs day right line facts s ≡ Ok p →
+    pub line_read : AllByRecursion WellFormed cs → (s : List ℕ) → Bytes s → (p : Fact × List ℕ) → line_checked cs day right line facts s ≡ Ok p →
         GoodLine facts s p.0 p.1
     line_read formed s small p e =
         let (q, e₁, below, h) = numbered-ok (take_number 2 s) p e in
@@ -91,7 +91,7 @@ module _ (cs : List Certificate) (day right : ℕ) where
         let small : n < 256 ^ 2 = omega (arith, w.number) in
         let first : take_number 2 (line_bytes l ++ rest) ≡ Some (n, behind) =
         rw (append_assoc (bytes 2 n) (flat_map (bytes 2) l.houses) rest) ((number-part 2).complete n small behind) in
-        let fit : All (λ h. h < 2 ^ 16) l.houses = All-weaker (λ h. h ≤ 1023) (λ h. h < 2 ^ 16) (λ h known. omega arith) l.houses (known-all l.houses w.known) in
+        let fit : AllByRecursion (λ h. h < 2 ^ 16) l.houses = All-weaker (λ h. h ≤ 1023) (λ h. h < 2 ^ 16) (λ h known. omega arith) l.houses (known-all l.houses w.known) in
         let second : take_numbers c.subject.count behind ≡ Some (l.houses, rest) = (names-part c.subject.count).complete l.houses (w.many, fit) rest in
         ap (numbered cs day right line facts) first ∙ (rw (lt-ltb n (length cs) w.number)
         (ap (housed cs day right line facts n) second ∙ ap (followed rest) (good-judged line facts c l.houses day right w.known g)))

@@ -12,7 +12,7 @@ use Rattle.sheets.specs.Facts.{Fact}
 use Rattle.sheets.specs.Laws.{ChecksExactly}
 use Rattle.sheets.specs.Sheets.{Line, certificate_at, good, shows, start, entitled, holds_from, holds}
 use Rattle.std.proofs.lemmas.Bool.{and_from}
-use Rattle.std.specs.List.{AllByRecursion as All}
+use Rattle.std.specs.List.{AllByRecursion}
 use Rattle.wire.specs.declared.faults.Fault.{Fault}
 use Rattle.wire.specs.declared.faults.Fault.TheVariants.{HouseNotShown}
 
@@ -20,11 +20,11 @@ use Rattle.wire.specs.declared.faults.Fault.TheVariants.{HouseNotShown}
 abbrev pub Found : ℕ → List Fact × Result (List ℕ) Fault → Type 0
 Found house done = concluded house done.0 done.1 ≡ Ok tt
 
-module _ (cs : List Certificate) (formed : All WellFormed cs) (day right house : ℕ) where
+module _ (cs : List Certificate) (formed : AllByRecursion WellFormed cs) (day right house : ℕ) where
   -- lines of these bytes that hold, from some facts on
   abbrev Holding : ℕ → List Fact → List ℕ → Type 0
   Holding count facts s =
-      (lines : List Line) × (length lines ≡ count) × All (Writable cs) lines × (s ≡ bytes_of_sheet lines) × (holds_from cs day right facts lines house ≡ true)
+      (lines : List Line) × (length lines ≡ count) × AllByRecursion (Writable cs) lines × (s ≡ bytes_of_sheet lines) × (holds_from cs day right facts lines house ≡ true)
 
   no_lines : (facts : List Fact) (s : List ℕ) → Found house (facts, Ok s) → Holding zero facts s
   unfolding holds_from
@@ -61,7 +61,7 @@ module _ (cs : List Certificate) (formed : All WellFormed cs) (day right house :
       go behind (Err fault) is found = impossible (cc)
 
   -- and lines that hold are found to
-  read-lines : length cs ≤ 1024 → (line : ℕ) (facts : List Fact) (lines : List Line) → All (Writable cs) lines →
+  read-lines : length cs ≤ 1024 → (line : ℕ) (facts : List Fact) (lines : List Line) → AllByRecursion (Writable cs) lines →
       holds_from cs day right facts lines house ≡ true → Found house (lines_checked cs day right (length lines) line facts (bytes_of_sheet lines))
   unfolding lines_checked holds_from
   read-lines few line facts [] writable held = rw held

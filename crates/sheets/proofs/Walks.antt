@@ -6,7 +6,7 @@ use Rattle.sheets.specs.Facts.{Fact, NameMeans, shown}
 use Rattle.sheets.specs.Sheets.{walks}
 use Rattle.std.proofs.lemmas.Bool.{and_parts, and_from, leb-true, le-leb}
 use Rattle.std.specs.Option.{option_map}
-use Rattle.std.specs.List.{AllByRecursion as All}
+use Rattle.std.specs.List.{AllByRecursion}
 
 -- where no step is missing, neither the first nor a later one is
 none-missing : (b : Bool) (later : Option ℕ) → cond b (option_map suc later) (Some 0) ≡ None → (b ≡ true) × (later ≡ None)
@@ -42,14 +42,14 @@ walk-length facts k (n ∷ names) [] e = impossible (cc)
 walk-length facts k (n ∷ names) (h ∷ houses) e =
     ap suc (walk-length facts h names houses (and_parts (shown (NameMeans k n h) facts) (walks facts h names houses) e).1)
 
-pub known-all : (houses : List ℕ) → known_houses houses ≡ true → All (λ h. h ≤ 1023) houses
+pub known-all : (houses : List ℕ) → known_houses houses ≡ true → AllByRecursion (λ h. h ≤ 1023) houses
 unfolding known_houses
 known-all [] e = tt
 known-all (h ∷ houses) e =
     let (first, rest) = and_parts (leb h 1023) (known_houses houses) e in
     (leb-true h 1023 first, known-all houses rest)
 
-pub all_known : (houses : List ℕ) → All (λ h. h ≤ 1023) houses → known_houses houses ≡ true
+pub all_known : (houses : List ℕ) → AllByRecursion (λ h. h ≤ 1023) houses → known_houses houses ≡ true
 unfolding known_houses
 all_known [] known = refl
 all_known (h ∷ houses) known = and_from (leb h 1023) (known_houses houses) (le-leb h 1023 known.0) (all_known houses known.1)

@@ -13,11 +13,11 @@ use Rattle.sheets.specs.Laws.{HoldsWritable}
 use Rattle.sheets.specs.Sheets.{Line, certificate_at, walks, shows, start, holds_from, holds}
 use Rattle.std.proofs.ByRecursion.{All-weaker}
 use Rattle.std.proofs.lemmas.Bool.{and_parts}
-use Rattle.std.specs.List.{AllByRecursion as All}
+use Rattle.std.specs.List.{AllByRecursion}
 use mathlib.Core.List.{Memᴰ}
 
 walk-within : (houses : List ℕ) (facts : List Fact) → Within houses facts → (k : ℕ) (names walk : List ℕ) → walks facts k names walk ≡ true →
-    All (λ h. Memᴰ h houses) walk
+    AllByRecursion (λ h. Memᴰ h houses) walk
 unfolding walks
 walk-within houses facts within k [] [] e = tt
 walk-within houses facts within k [] (h ∷ walk) e = impossible (cc)
@@ -26,7 +26,7 @@ walk-within houses facts within k (n ∷ names) (h ∷ walk) e =
     let (first, rest) = and_parts (shown (NameMeans k n h) facts) (walks facts h names walk) e in
     (within k n h (shown-true (NameMeans k n h) facts first), walk-within houses facts within h names walk rest)
 
-module _ (cs : List Certificate) (formed : All WellFormed cs) (day right : ℕ) where
+module _ (cs : List Certificate) (formed : AllByRecursion WellFormed cs) (day right : ℕ) where
   line-writable : (facts : List Fact) → Within (subjectHouses cs) facts → (l : Line) → Good cs day right facts l → Writable cs l
   line-writable facts within l g =
       let c = certificate_at cs l.certificate in
@@ -39,7 +39,7 @@ module _ (cs : List Certificate) (formed : All WellFormed cs) (day right : ℕ) 
       }
 
   lines-writable : (house : ℕ) (facts : List Fact) → Within (subjectHouses cs) facts → (lines : List Line) →
-      holds_from cs day right facts lines house ≡ true → All (Writable cs) lines
+      holds_from cs day right facts lines house ≡ true → AllByRecursion (Writable cs) lines
   lines-writable house facts within [] e = tt
   lines-writable house facts within (l ∷ lines) e =
       let (g, rest) = first_good cs day right facts house l lines e in

@@ -6,7 +6,7 @@ use Rattle.certificates.specs.declared.Certificate.{Certificate}
 use Rattle.sheets.specs.Bytes.{bytes_of_sheet, Writable}
 use Rattle.sheets.specs.Checking.{check_sheet}
 use Rattle.sheets.specs.Sheets.{Line, holds}
-use Rattle.std.specs.List.{AllByRecursion as All}
+use Rattle.std.specs.List.{AllByRecursion}
 use mathlib.Core.List.{Memᴰ}
 
 -- A sheet that holds for a house shows that the house may.
@@ -29,11 +29,11 @@ Decided = (cs : List Certificate) (day right owner house : ℕ) → May cs day r
 
 -- The check says that a sheet holds exactly where the bytes are those of so many lines that hold.
 abbrev pub ChecksExactly : Type 0
-ChecksExactly = (cs : List Certificate) → All WellFormed cs → length cs ≤ 1024 → (day right owner house count : ℕ) (s : List ℕ) → All (λ b. b < 256) s →
+ChecksExactly = (cs : List Certificate) → AllByRecursion WellFormed cs → length cs ≤ 1024 → (day right owner house count : ℕ) (s : List ℕ) → AllByRecursion (λ b. b < 256) s →
     ((check_sheet cs day right owner house count s).1 ≡ Ok tt) ↔
-    ((lines : List Line) × (length lines ≡ count) × All (Writable cs) lines × (s ≡ bytes_of_sheet lines) × T (holds cs day right owner lines house))
+    ((lines : List Line) × (length lines ≡ count) × AllByRecursion (Writable cs) lines × (s ≡ bytes_of_sheet lines) × T (holds cs day right owner lines house))
 
 -- Every line of a sheet that holds can be written.
 abbrev pub HoldsWritable : Type 0
-HoldsWritable = (cs : List Certificate) → All WellFormed cs → (day right owner house : ℕ) (lines : List Line) →
-    T (holds cs day right owner lines house) → All (Writable cs) lines
+HoldsWritable = (cs : List Certificate) → AllByRecursion WellFormed cs → (day right owner house : ℕ) (lines : List Line) →
+    T (holds cs day right owner lines house) → AllByRecursion (Writable cs) lines

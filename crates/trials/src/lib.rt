@@ -10,6 +10,8 @@ mod deliveries_received;
 #[cfg(test)]
 mod events_refused;
 #[cfg(test)]
+mod inquiries_answered;
+#[cfg(test)]
 mod long_ways_found;
 #[cfg(test)]
 mod sheets_checked;

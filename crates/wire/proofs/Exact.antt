@@ -4,7 +4,7 @@ use Rattle.certificates.specs.Certificates.{in_range}
 use Rattle.certificates.specs.declared.Certificate.{Certificate}
 use Rattle.std.proofs.ByRecursion.{All-from_get_or}
 use Rattle.std.proofs.lemmas.Bool.{eqb-true, cond_both}
-use Rattle.std.specs.List.{AllByRecursion as All}
+use Rattle.std.specs.List.{AllByRecursion}
 use Rattle.wire.proofs.Formed.{formed, fields_of, fields-of}
 use Rattle.wire.proofs.Frames.{frame-part}
 use Rattle.wire.proofs.Numerals.{byte-taken, number-part}
@@ -37,7 +37,7 @@ pub data Outcome (s : List ℕ) : Reading → Type 0 where
       Outcome s (Err (OutOfRange, rest))
   stop : Outcome s stopped
 
-module _ (s : List ℕ) (small : All (λ b. b < 256) s) where
+module _ (s : List ℕ) (small : AllByRecursion (λ b. b < 256) s) where
   issued : (t : Taken Certificate) → frame s ≡ t → Outcome (1 ∷ s) (looked t)
   issued None is = stop
   issued (Some p) is =
@@ -60,7 +60,7 @@ module _ (s : List ℕ) (small : All (λ b. b < 256) s) where
       cond_both (eqb kind 3) _ _ (Outcome (kind ∷ s)) (λ is. rw (eqb-true kind 3 is) (event tt refl)) λ not3.
       stop
 
-pub outcome : (s : List ℕ) → All (λ b. b < 256) s → Outcome s (event_read s)
+pub outcome : (s : List ℕ) → AllByRecursion (λ b. b < 256) s → Outcome s (event_read s)
 outcome [] small = stop
 outcome (kind ∷ s) small = rw (byte-taken kind s) (of-kind s small.1 kind)
 
@@ -93,7 +93,7 @@ module _ (s : List ℕ) where
       let same : ◌≡◌ {A = Fault × List ℕ} (fault, rest) (Malformed, []) = cc in
       inr (ap (λ p. p.0) same, ap (λ p. p.1) same)
 
-pub exactly : (s : List ℕ) → All (λ b. b < 256) s → Exactly s (event_read s)
+pub exactly : (s : List ℕ) → AllByRecursion (λ b. b < 256) s → Exactly s (event_read s)
 exactly s small =
     let so = outcome s small in
     record {

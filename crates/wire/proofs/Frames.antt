@@ -5,7 +5,7 @@ use Rattle.certificates.specs.declared.Statement.{Statement}
 use Rattle.certificates.specs.declared.Statement.TheVariants.{Name, Rights}
 use Rattle.certificates.specs.declared.Subject.{Subject}
 use Rattle.std.proofs.lemmas.Bool.{eqb-true, eqb-false}
-use Rattle.std.specs.List.{flat_map, AllByRecursion as All}
+use Rattle.std.specs.List.{flat_map, AllByRecursion}
 use Rattle.wire.proofs.Numerals.{number-part, byte-part, names-part}
 use Rattle.wire.proofs.Parts.{impossible, Part, both, turned, told-by, chosen, never}
 use Rattle.wire.specs.Exact.{fields_bytes, certificate_of, StatementFits, Fits}
@@ -90,7 +90,7 @@ abbrev named_of : ℕ × List ℕ → Subject
 named_of p = record { house = p.0; names = places p.1; count = length p.1 }
 
 abbrev Named-fit : ℕ × List ℕ → Type 0
-Named-fit p = (p.0 < 2 ^ 16) × ((length p.1 < 2 ^ 8) × All (λ n. n < 2 ^ 16) p.1)
+Named-fit p = (p.0 < 2 ^ 16) × ((length p.1 < 2 ^ 8) × AllByRecursion (λ n. n < 2 ^ 16) p.1)
 
 subject-part : Part take_subject named_of namedBytes Named-fit
 subject-part = told-by

@@ -4,7 +4,7 @@ use Rattle.certificates.specs.declared.Statement.{Statement}
 use Rattle.certificates.specs.declared.Statement.TheVariants.{Name, Rights}
 use Rattle.std.proofs.ByRecursion.{All-append}
 use Rattle.std.proofs.lemmas.List.{take-append-drop, take_at, take-append-le, length-append, append_assoc}
-use Rattle.std.specs.List.{flat_map, AllByRecursion as All}
+use Rattle.std.specs.List.{flat_map, AllByRecursion}
 use Rattle.wire.proofs.Exact.{Outcome, event, refused, stop, outcome, read_back, fields_read}
 use Rattle.wire.proofs.Formed.{fields_of, fields-of}
 use Rattle.wire.proofs.Numerals.{length-bytes}
@@ -74,7 +74,7 @@ module _ (s more : List ℕ) (long : 533 ≤ length s) where
       impossible (cc)
   still none stop = refl
 
-  followed : {r : Reading} → All (λ b. b < 256) (s ++ more) → event_read s ≡ r → Outcome s r → event_read (s ++ more) ≡ followed_by more r
+  followed : {r : Reading} → AllByRecursion (λ b. b < 256) (s ++ more) → event_read s ≡ r → Outcome s r → event_read (s ++ more) ≡ followed_by more r
   followed small same (event {e = e} {rest = rest} w is) =
       ap (λ t. event_read (t ++ more)) is ∙ (ap event_read (append_assoc (bytes_of_event e) rest more) ∙ read_back e w (rest ++ more))
   followed small same (refused {rest = rest} f fits out is) =

@@ -4,7 +4,7 @@ use Rattle.std.proofs.lemmas.Int.Digits.{number_lt}
 use Rattle.std.proofs.ByRecursion.{All-get_or, All-take}
 use Rattle.std.proofs.lemmas.List.{take-append-drop, take_at, drop_at, get_or_past, length-take-le}
 use Rattle.std.proofs.lemmas.Bool.{cases_lt, le-leb, leb-true}
-use Rattle.std.specs.List.{flat_map, AllByRecursion as All}
+use Rattle.std.specs.List.{flat_map, AllByRecursion}
 use Rattle.std.specs.Int.Digits.{number_from_digits, AllBelowBase}
 use Rattle.wire.proofs.BigEndian.{number-bytes, bytes-number}
 use Rattle.wire.proofs.Parts.{impossible, Part, both, turned, told-by}
@@ -63,7 +63,7 @@ byte-part = told-by (λ b small. (b, small, refl, is_byte b small)) (λ b small.
     is_byte b small = ap (λ n. n ∷ []) (mod-eq_of_lt small)
 
 abbrev Names-fit : ℕ → List ℕ → Type 0
-Names-fit k names = (length names ≡ k) × All (λ n. n < 2 ^ 16) names
+Names-fit k names = (length names ≡ k) × AllByRecursion (λ n. n < 2 ^ 16) names
 
 pub names-part : (k : ℕ) → Part (take_numbers k) (λ names. names) (flat_map (bytes 2)) (Names-fit k)
 unfolding take_numbers

@@ -4,7 +4,7 @@ use Rattle.certificates.specs.Certificates.{in_range, WellFormed}
 use Rattle.certificates.specs.declared.Certificate.{Certificate}
 use Rattle.certificates.specs.declared.Statement.{Statement}
 use Rattle.certificates.specs.declared.Statement.TheVariants.{Name, Rights}
-use Rattle.std.specs.List.{flat_map, AllByRecursion as All}
+use Rattle.std.specs.List.{flat_map, AllByRecursion}
 use Rattle.wire.specs.Format.{statement_bytes, bytes_of_event}
 use Rattle.wire.specs.Numbers.{bytes, places}
 use Rattle.wire.specs.Reading.{Reading, event_read}
@@ -57,7 +57,7 @@ pub record Fits (f : Fields) : Type 0 where
   pub last_fits : f.last < 2 ^ 32
   pub house_fits : f.house < 2 ^ 16
   pub count_fits : length f.names < 2 ^ 8
-  pub names_fit : All (λ n. n < 2 ^ 16) f.names
+  pub names_fit : AllByRecursion (λ n. n < 2 ^ 16) f.names
   pub statement_fits : StatementFits f.statement
 
 -- What reading some bytes gives, told by the bytes of events alone.
