@@ -2,7 +2,7 @@
 #![tactic(auto)]
 
 use programs::ending::end;
-use programs::find::run;
+use programs::find_program::run;
 use std::process::ExitCode;
 
 fn main(rt: HostRuntime) -> ExitCode {

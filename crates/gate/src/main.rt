@@ -2,7 +2,7 @@
 #![tactic(auto)]
 
 use programs::ending::end;
-use programs::gate::run;
+use programs::gate_program::run;
 use std::process::ExitCode;
 
 fn main(rt: HostRuntime) -> ExitCode {

@@ -3,5 +3,5 @@
 
 mod changes;
 pub mod days;
-pub mod sheets;
+pub mod sheet;
 pub mod spans;

@@ -2,11 +2,11 @@
 #![tactic(auto)]
 
 mod arguments;
-mod deliveries;
 pub mod ending;
 mod files;
-pub mod find;
-pub mod gate;
+pub mod find_program;
+pub mod gate_program;
 mod places;
 mod requests;
-pub mod until;
+mod taking;
+pub mod until_program;

@@ -1,7 +1,7 @@
 // Requests without lines, as the last of a program's files.
 use crate::arguments::{Call, read_call};
-use crate::deliveries::{new_gate, open_all, take_file};
 use crate::files::{open_file, read_on};
+use crate::taking::{new_gate, open_all, take_file};
 use anyhow::anyhow;
 use finding::sheets_found::Unfound;
 use gates::Gate;

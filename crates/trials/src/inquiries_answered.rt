@@ -4,7 +4,7 @@ use deliveries::receiving::receive_all;
 use finding::sheets_found::Unfound;
 use gates::Gate;
 use inquiries::days::days_for;
-use inquiries::sheets::sheet_for;
+use inquiries::sheet::sheet_for;
 use sheets::checking::MEMORY_WORDS;
 use std::alloc::Global;
 use std::test::*;

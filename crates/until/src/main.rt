@@ -2,7 +2,7 @@
 #![tactic(auto)]
 
 use programs::ending::end;
-use programs::until::run;
+use programs::until_program::run;
 use std::process::ExitCode;
 
 fn main(rt: HostRuntime) -> ExitCode {

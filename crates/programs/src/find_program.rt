@@ -1,6 +1,6 @@
 // The program `find`: writes the request with the sheet that is found for it.
 use crate::requests::{read_inquiry, refuse};
-use inquiries::sheets::sheet_for;
+use inquiries::sheet::sheet_for;
 use std::io::Write;
 
 pub fn run(rt: &HostRuntime) -> anyhow::Result<bool> {

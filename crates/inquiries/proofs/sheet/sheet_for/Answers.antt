@@ -2,7 +2,7 @@ use Rattle.std.proofs.Common.{arith}
 use Rattle.finding.specs.Growing.{bare_head, HeadTold}
 use Rattle.gates.specs.Gates.{state_of}
 use Rattle.inquiries.proofs.Kept.{sheet-kept}
-use Rattle.inquiries.proofs.sheets.sheet_for.Goals as goal
+use Rattle.inquiries.proofs.sheet.sheet_for.Goals as goal
 
 pub returns-clause-kept : goal.returns-clause-kept
 returns-clause-kept c =

@@ -1,7 +1,7 @@
 // The program `gate`: takes each file as a delivery, and prints what the gate answers, one answer to a line.
 use crate::arguments::read_call;
-use crate::deliveries::{Telling, new_gate, open_all, take_events};
 use crate::files::{open_file, read_on};
+use crate::taking::{Telling, new_gate, open_all, take_events};
 use anyhow::anyhow;
 use gates::Gate;
 use gates::requests::LONGEST_REQUEST;
