@@ -119,8 +119,8 @@ pub fn bare_head(request: &[u8]) -> Result<Head, Unfound>
     Ok(head)
 }
 
-// Finds the sheet for a request without lines, at the owner's gate on a day: the request with its sheet.
-pub fn find_sheet(
+// What a request without lines is told follows from what was written behind its head.
+fn sheet_by_head(
     heap: Global,
     registry: &Registry,
     day: u32,
@@ -147,8 +147,23 @@ pub fn find_sheet(
     }
 }
 
-// Whether the house may; no sheet is written.
-pub fn may(
+// Finds the sheet for a request without lines, at the owner's gate on a day: the request with its sheet.
+pub fn find_sheet(
+    heap: Global,
+    registry: &Registry,
+    day: u32,
+    owner: u16,
+    names: &mut [u64],
+    name_lines: &mut [u32],
+    request: &[u8],
+) -> Result<Vec<u8>, Unfound>
+    ensures { HeadTold (certificates_of registry.now) day owner names.old name_lines.old names.new name_lines.new result (bare_head request.now) }
+{
+    sheet_by_head(heap, registry, day, owner, names, name_lines, request)
+}
+
+// Whether the house may follows from what is in memory once all lines were found.
+fn may_by_lines(
     heap: Global,
     registry: &Registry,
     question: &Question,
@@ -161,6 +176,19 @@ pub fn may(
         Ok(lines) => Ok(is_wanted(question, &lines)),
         Err(trouble) => Err(unsearched(trouble)),
     }
+}
+
+// Whether the house may; no sheet is written.
+pub fn may(
+    heap: Global,
+    registry: &Registry,
+    question: &Question,
+    names: &mut [u64],
+    name_lines: &mut [u32],
+) -> Result<bool, Unfound>
+    ensures { MayTold (certificates_of registry.now) question.now names.old name_lines.old names.new name_lines.new result }
+{
+    may_by_lines(heap, registry, question, names, name_lines)
 }
 
 // Whether the house is shown to have the right.

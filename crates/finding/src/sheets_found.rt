@@ -172,6 +172,22 @@ fn find_and_write(
     )
 }
 
+// What finding is worth follows from what it answers.
+fn find_kept(
+    heap: Global,
+    registry: &Registry,
+    question: &Question,
+    names: &mut [u64],
+    name_lines: &mut [u32],
+    request: &mut [u8],
+) -> Result<usize, Unfound>
+    ensures answered { Answered (certificates_of registry.now) question.now names.old name_lines.old request.old names.new name_lines.new request.new result }
+    ensures worth { Worth (certificates_of registry.now) question.now result }
+    ensures opens { Bytes request.old → (h : RequestHead) (rest : List ℕ) → head_of request.old ≡ Some (h, rest) → h.house ≡ question.now.house → h.right ≡ question.now.right → WrittenOpens (certificates_of registry.now) question.now request.new result }
+{
+    find_and_write(heap, registry, question, names, name_lines, request)
+}
+
 // Finds the sheet for a question, and writes it behind the head of the request, with how many lines it has: how long the request is then.
 pub fn find(
     heap: Global,
@@ -185,7 +201,7 @@ pub fn find(
     ensures worth { Worth (certificates_of registry.now) question.now result }
     ensures opens { Bytes request.old → (h : RequestHead) (rest : List ℕ) → head_of request.old ≡ Some (h, rest) → h.house ≡ question.now.house → h.right ≡ question.now.right → WrittenOpens (certificates_of registry.now) question.now request.new result }
 {
-    find_and_write(heap, registry, question, names, name_lines, request)
+    find_kept(heap, registry, question, names, name_lines, request)
 }
 
 // The head of a request; none where it is no request, or its head is cut.

@@ -1,7 +1,7 @@
 use Rattle.std.proofs.Common.{◌≤◌, length, ◌∙◌, subst, arith}
 use Rattle.finding.proofs.Answering.{memory-left, sizes, house_known}
 use Rattle.finding.proofs.Deciding.{may-decided}
-use Rattle.finding.proofs.growing.may.Goals as goal
+use Rattle.finding.proofs.growing.may_by_lines.Goals as goal
 use Rattle.finding.specs.Worth.{Allowed}
 use Rattle.registry.specs.Numbered.{certificates_of}
 use Rattle.round_lines.proofs.Loops.{range-covers}

@@ -1,6 +1,6 @@
 use Rattle.std.proofs.Common.{◌≤◌, length, sym, arith}
 use Rattle.finding.proofs.Sheeted.{whole-told, error-told}
-use Rattle.finding.proofs.growing.find_sheet.Goals as goal
+use Rattle.finding.proofs.growing.sheet_by_head.Goals as goal
 use Rattle.registry.specs.Numbered.{certificates_of}
 use Rattle.round_lines.proofs.Loops.{range-covers}
 
