@@ -55,7 +55,7 @@ impl Certificate {
         (self.first, self.last) = (1, 0);
     }
 
-    /// Reads what stands behind the kind: `None` where it can't be framed, else the fault of a value.
+    /// Reads what stands behind the kind: `None` where it can't be framed, else a fault of values.
     pub fn read(from: &mut Reader) -> Option<Result<Certificate, Cause>> {
         let issuer = from.u16()?;
         let (first, last) = (from.u32()?, from.u32()?);

@@ -7,22 +7,28 @@ use crate::fault::{Cause, Fault};
 use crate::gate::Gate;
 use crate::request::Head;
 
-/// Facts shown by the lines that were read: a row of houses for each certificate, and who has the right.
+/// Facts shown by the lines that were read: a row of houses for each certificate, and who has the
+/// right.
 pub struct Table {
     rows: Vec<Bits>,
+    /// The rows that have a house in them.
+    filled: Bits,
     passing: Bits,
     having: Bits,
 }
 
 impl Default for Table {
     fn default() -> Table {
-        Table { rows: vec![EMPTY; LIMIT], passing: EMPTY, having: EMPTY }
+        Table { rows: vec![EMPTY; LIMIT], filled: EMPTY, passing: EMPTY, having: EMPTY }
     }
 }
 
 impl Table {
-    fn wipe(&mut self, rows: usize, owner: u16) {
-        self.rows[..rows].fill(EMPTY);
+    fn wipe(&mut self, owner: u16) {
+        for row in self.filled.numbers() {
+            self.rows[usize::from(row)] = EMPTY;
+        }
+        self.filled = EMPTY;
         self.passing = only(owner);
         self.having = EMPTY;
     }
@@ -36,7 +42,7 @@ pub fn answer(gate: &Gate, request: &[u8], table: &mut Table) -> Result<(), Faul
     if head.lines as usize > count * LIMIT {
         return Err(Cause::TooManyLines.into());
     }
-    table.wipe(count, gate.owner);
+    table.wipe(gate.owner);
     let mut check = Check { gate, right: head.right, table };
     for line in 0..head.lines {
         check.line(&mut from, line)?;
@@ -112,6 +118,7 @@ impl Check<'_> {
             Statement::Name(name) => {
                 if let Some(row) = self.gate.registry.row(certificate.issuer, name) {
                     self.table.rows[usize::from(row)].insert(reached);
+                    self.table.filled.insert(row);
                 }
             }
             Statement::Rights { passing: true, .. } => self.table.passing.insert(reached),

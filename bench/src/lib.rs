@@ -12,6 +12,7 @@ pub mod gate;
 pub mod inputs;
 pub mod literal;
 pub mod meaning;
+pub mod measure;
 pub mod programs;
 pub mod random;
 pub mod registry;

@@ -122,7 +122,7 @@ fn open(name: &OsStr) -> io::Result<File> {
     }
 }
 
-/// The gate after the deliveries, of which a request changes nothing, and the head of the last file.
+/// The gate after the deliveries, in which a request changes nothing, and the last file's head.
 fn asked(arguments: &[OsString], err: &mut dyn Write) -> io::Result<(Gate, Result<Head, Cause>)> {
     let (owner, files) = opened(arguments)?;
     let (ask, deliveries) = files.split_last().ok_or(io::Error::other("usage: OWNER FILE..."))?;

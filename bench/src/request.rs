@@ -6,7 +6,8 @@ use crate::fault::Cause;
 
 pub const KIND: u8 = 4;
 
-/// The bytes of the longest request: a head, and 1,024 lines of six steps to each of 1,024 certificates.
+/// The bytes of the longest request: a head, and to each of 1,024 certificates 1,024 lines of six
+/// steps.
 pub const LONGEST: usize = 8 + LIMIT * LIMIT * 14;
 
 /// Kind, house, right and number of lines.

@@ -24,7 +24,8 @@ impl fmt::Display for Span {
 /// A sheet holds as long as all its certificates are valid; without one, nothing changes before
 /// another certificate becomes valid. So only some of the days need be looked at.
 pub fn spans(registry: &Registry, asked: Asked) -> Vec<Span> {
-    let mut finder = Finder::new(registry, asked, |certificate| certificate.first <= certificate.last);
+    let mut finder =
+        Finder::new(registry, asked, |certificate| certificate.first <= certificate.last);
     let firsts = first_days(registry, &finder);
     let mut spans: Vec<Span> = Vec::new();
     let mut next = Some(0);
@@ -34,7 +35,8 @@ pub fn spans(registry: &Registry, asked: Asked) -> Vec<Span> {
             continue;
         };
         let used = lines.iter().map(|line| usize::from(line.certificate));
-        let last = used.map(|number| registry.certificates()[number].last).min().unwrap_or(u32::MAX);
+        let last =
+            used.map(|number| registry.certificates()[number].last).min().unwrap_or(u32::MAX);
         match spans.last_mut() {
             Some(span) if span.last.checked_add(1) == Some(day) => span.last = last,
             _ => spans.push(Span { first: day, last }),
@@ -47,7 +49,8 @@ pub fn spans(registry: &Registry, asked: Asked) -> Vec<Span> {
 /// The days on which a certificate that can matter becomes valid, rising.
 fn first_days(registry: &Registry, finder: &Finder) -> Vec<u32> {
     let all = registry.certificates();
-    let mut days: Vec<u32> = finder.certificates().map(|number| all[usize::from(number)].first).collect();
+    let mut days: Vec<u32> =
+        finder.certificates().map(|number| all[usize::from(number)].first).collect();
     days.sort_unstable();
     days.dedup();
     days

@@ -29,6 +29,7 @@ pub fn falling(count: u16) -> Input {
 
 /// A right that is passed from house to house, in an order in which each round passes it once.
 pub fn givers(count: u16) -> Input {
-    let certificates: Vec<Certificate> = (0..count).rev().map(|at| right(at, at + 1, &[])).collect();
+    let certificates: Vec<Certificate> =
+        (0..count).rev().map(|at| right(at, at + 1, &[])).collect();
     Input::new("chain-givers", 0, count, &certificates)
 }

@@ -7,6 +7,7 @@ use crate::gate::Gate;
 use crate::random::Random;
 use crate::request::Asked;
 use crate::schedule::Schedule;
+use crate::spans::spans;
 
 const HOUSES: usize = 70;
 const RESTORERS: u16 = 1;
@@ -88,7 +89,9 @@ fn longest(events: &[u8], houses: &[u16]) -> (u16, u16, u8) {
     for &owner in &houses[..4] {
         let mut gate = Gate::new(owner);
         receive(&mut gate, events, |_| Ok(())).expect("reading from memory does not fail");
-        for (right, house) in (0..16).flat_map(|right| houses.iter().map(move |&house| (right, house))) {
+        for (right, house) in
+            (0..16).flat_map(|right| houses.iter().map(move |&house| (right, house)))
+        {
             let asked = Asked { owner, house, right };
             let found = Schedule::Fast.find(&gate.registry, asked, gate.day);
             let lines = found.map_or(0, |lines| lines.len());
@@ -98,18 +101,29 @@ fn longest(events: &[u8], houses: &[u16]) -> (u16, u16, u8) {
     best.1
 }
 
-/// A chain of names, where each link is stated for many short spans of days.
+/// A chain of names, where each link is stated for many short spans of days. It is the first day
+/// on which the chain holds.
 pub fn seasons(random: &mut Random) -> Input {
     const LINKS: u16 = 10;
     let mut certificates = Vec::new();
     for at in 0..1020 {
         let link = at % LINKS;
-        let next = if link + 1 == LINKS { name(link, 7, 1000, &[]) } else { name(link, 7, link + 1, &[7]) };
+        let next = if link + 1 == LINKS {
+            name(link, 7, 1000, &[])
+        } else {
+            name(link, 7, link + 1, &[7])
+        };
         let first = random.below(100_000) as u32;
         let last = first + random.from(500, 4000) as u32;
         certificates.push(Certificate { first, last, ..next });
     }
     certificates.push(right(1023, 0, &[7]));
     random.shuffle(&mut certificates);
-    Input::new("seasons", 1023, 1000, &certificates)
+    let mut input = Input::new("seasons", 1023, 1000, &certificates);
+    let mut gate = Gate::new(input.owner);
+    receive(&mut gate, &input.events[..], |_| Ok(())).expect("reading from memory does not fail");
+    let asked = Asked { owner: input.owner, house: input.house, right: input.right };
+    let days = spans(&gate.registry, asked).first().map_or(0, |span| span.first);
+    input.events.extend(vec![3; days as usize]);
+    input
 }

@@ -43,7 +43,9 @@ impl Input {
 
     /// Writes NAME.events, NAME.ask and NAME.owner.
     pub fn write(&self, folder: &Path) -> io::Result<()> {
-        let put = |kind: &str, bytes: &[u8]| fs::write(folder.join(format!("{}.{kind}", self.name)), bytes);
+        let put = |kind: &str, bytes: &[u8]| {
+            fs::write(folder.join(format!("{}.{kind}", self.name)), bytes)
+        };
         put("events", &self.events)?;
         put("ask", &self.ask())?;
         put("owner", format!("{}\n", self.owner).as_bytes())

@@ -8,7 +8,8 @@ use crate::random::Random;
 /// others but two states a name that stands for it.
 pub fn facts(count: u16) -> Input {
     let half = count / 2;
-    let mut certificates: Vec<Certificate> = (0..half).map(|house| name(0, 0, house, &[])).collect();
+    let mut certificates: Vec<Certificate> =
+        (0..half).map(|house| name(0, 0, house, &[])).collect();
     certificates.extend((1..half).map(|of| name(of, of, 0, &[0])));
     certificates.push(right(1023, half - 1, &[half - 1]));
     Input::new("facts", 1023, half - 1, &certificates)
@@ -33,11 +34,9 @@ pub fn six_names(random: &mut Random) -> Input {
             certificates.push(name(issuer, 2, any(random), &[1; 6]));
         }
     }
-    certificates.truncate(1023);
+    certificates.truncate(1022);
+    certificates.push(name(any(random), 3, 1000, &[]));
     random.shuffle(&mut certificates);
-    let end = name(any(random), 2, 1000, &[]);
-    let at = random.below(certificates.len());
-    certificates[at] = end;
-    certificates.push(right(1023, end.issuer, &[2]));
+    certificates.push(right(1023, any(random), &[2, 1, 2, 1, 2, 3]));
     Input::new("six-names", 1023, 1000, &certificates)
 }

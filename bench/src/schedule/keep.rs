@@ -29,7 +29,9 @@ fn need_grounds(plan: &Plan, turn: &Turn, steps: &Steps, needed: &mut [Bits]) {
     if let Some(giver) = turn.giver {
         needed[usize::from(PASSING)].insert(giver);
     }
-    let Some(first_row) = turn.first_row else { return };
+    let Some(first_row) = turn.first_row else {
+        return;
+    };
     let mut row = first_row;
     for (level, &house) in steps[..turn.count()].iter().enumerate() {
         needed[usize::from(row)].insert(house);

@@ -66,7 +66,7 @@ pub struct Plan {
     pub rows: usize,
     pub turns: Vec<Turn>,
     pub later: Vec<Later>,
-    /// For each row of a name that stands after the first somewhere: its house and the name's place.
+    /// For each row of a name that stands after the first somewhere: its house, the name's place.
     pub steps: Vec<Option<(u16, u16)>>,
 }
 
@@ -75,7 +75,8 @@ impl Plan {
     pub fn new(registry: &Registry, asked: Asked, counts: impl Fn(&Certificate) -> bool) -> Plan {
         let all = registry.certificates();
         let rows = all.len() + 2;
-        let mut plan = Plan { asked, rows, turns: Vec::new(), later: Vec::new(), steps: vec![None; rows] };
+        let mut plan =
+            Plan { asked, rows, turns: Vec::new(), later: Vec::new(), steps: vec![None; rows] };
         let mut places = Places(vec![0; 1 << 16]);
         for (number, certificate) in all.iter().enumerate().filter(|(_, one)| counts(one)) {
             plan.add_turn(registry, certificate, number as u16, &mut places);
@@ -86,7 +87,13 @@ impl Plan {
         plan
     }
 
-    fn add_turn(&mut self, registry: &Registry, of: &Certificate, number: u16, places: &mut Places) {
+    fn add_turn(
+        &mut self,
+        registry: &Registry,
+        of: &Certificate,
+        number: u16,
+        places: &mut Places,
+    ) {
         let (giver, target) = match of.statement {
             Statement::Name(name) => match name_row(registry, of.issuer, name) {
                 Some(row) => (None, row),
@@ -116,9 +123,15 @@ impl Plan {
     }
 
     fn add_stated(&mut self, registry: &Registry, of: &Certificate, places: &Places) {
-        let Statement::Name(name) = of.statement else { return };
-        let Some(place) = places.known(name) else { return };
-        let Some(row) = name_row(registry, of.issuer, name) else { return };
+        let Statement::Name(name) = of.statement else {
+            return;
+        };
+        let Some(place) = places.known(name) else {
+            return;
+        };
+        let Some(row) = name_row(registry, of.issuer, name) else {
+            return;
+        };
         let later = &mut self.later[usize::from(place)];
         later.stated.insert(of.issuer);
         later.rows[usize::from(of.issuer)] = row;

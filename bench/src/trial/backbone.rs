@@ -25,7 +25,11 @@ pub fn backbone(random: &mut Random, world: &World, length: usize) -> Vec<Certif
     }
     let mut giver = world.owner;
     for &(house, name) in places.iter().take(random.from(1, 5)) {
-        let subject = if random.percent(60) { Subject::new(house, &[name]) } else { Subject::new(house, &[]) };
+        let subject = if random.percent(60) {
+            Subject::new(house, &[name])
+        } else {
+            Subject::new(house, &[])
+        };
         all.push(always(giver, subject, Statement::Rights { set, passing: random.percent(80) }));
         giver = house;
     }

@@ -10,9 +10,9 @@ pub fn damage(random: &mut Random, bytes: &mut Vec<u8>) {
         let at = random.below(end);
         match random.below(6) {
             0 => bytes.truncate(at),
-            1 => bytes.insert(at, random.next() as u8),
+            1 => bytes.insert(at, random.number() as u8),
             2 => bytes.extend((0..random.from(1, 4)).map(|_| 0)),
-            _ if bytes.is_empty() => bytes.push(random.next() as u8),
+            _ if bytes.is_empty() => bytes.push(random.number() as u8),
             3 => drop(bytes.remove(at % bytes.len())),
             4 => {
                 let at = at % bytes.len();
@@ -38,7 +38,7 @@ pub fn faulty_event(random: &mut Random, certificate: &Certificate, out: &mut Ve
             2 => bytes[14 + names + 1..].fill(0),
             3 => return more_names(random, certificate, out),
             4 => {
-                out.extend([2, random.pick(&[0, 3, 4, 255]), random.next() as u8]);
+                out.extend([2, random.pick(&[0, 3, 4, 255]), random.number() as u8]);
                 return;
             }
             5 if random.percent(10) => bytes[14 + names] = random.pick(&[3, 255]),
@@ -56,7 +56,7 @@ fn more_names(random: &mut Random, certificate: &Certificate, out: &mut Vec<u8>)
     let count = random.pick(&[7, 8, 128, 255]);
     let names = 2 * certificate.subject.names().len();
     bytes[13] = count;
-    let more = std::iter::repeat_n(random.next() as u8, 2 * usize::from(count) - names);
+    let more = std::iter::repeat_n(random.number() as u8, 2 * usize::from(count) - names);
     let behind = bytes.split_off(14 + names);
     out.extend(bytes.into_iter().chain(more).chain(behind));
 }

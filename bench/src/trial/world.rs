@@ -1,4 +1,5 @@
-//! Few houses, names, rights and days, so that rights, rings and chains happen; and events among them.
+//! Few houses, names, rights and days, so that rights, rings and chains happen; and events among
+//! them.
 
 use crate::certificate::{Certificate, Statement, Subject};
 use crate::random::Random;
@@ -30,7 +31,7 @@ pub struct World {
     giving: usize,
 }
 
-/// Distinct numbers below a limit: mostly the first ones, sometimes any, with the last one among them.
+/// Distinct numbers below a limit: mostly the first ones, sometimes any and the last one.
 fn pool(random: &mut Random, count: usize, limit: usize) -> Vec<u16> {
     let mut all: Vec<u16> = (0..count as u16).collect();
     if random.percent(30) {
