@@ -1,4 +1,7 @@
 // What keeps a gate from being made, or from answering.
+ghost use Rattle.gates.specs.Troubles.{text_of};
+ghost use Rattle.std.specs.Prelude.{Some};
+
 use std::fmt;
 
 // Why there is no gate, or no answer.
@@ -13,6 +16,8 @@ pub enum Trouble {
 }
 
 impl fmt::Display for Trouble {
+    ghost output = { λ trouble. Some (text_of trouble) };
+
     fn fmt<W: fmt::Write>(&self, f: &mut fmt::Formatter<W>) -> fmt::Result {
         match self {
             Trouble::UnknownHouse => write!(f, "no house has this number"),
