@@ -70,8 +70,8 @@ fn spans_of(
     }
 }
 
-// The spans of all days on which the house of a request without lines may, by the certificates that came to a gate.
-pub fn days_for(
+// What a gate tells of the days follows from the spans by its certificates.
+fn days_by_head(
     heap: Global,
     gate: &Gate,
     names: &mut [u64],
@@ -93,4 +93,19 @@ pub fn days_for(
         house: head.house,
     };
     spans_of(heap, gate.registry(), &question, names, name_lines)
+}
+
+// The spans of all days on which the house of a request without lines may, by the certificates that came to a gate.
+pub fn days_for(
+    heap: Global,
+    gate: &Gate,
+    names: &mut [u64],
+    name_lines: &mut [u32],
+    request: &[u8],
+) -> Result<Vec<Span>, Unfound>
+    ensures told { DaysTold (state_of gate.now) names.old name_lines.old result (bare_head request.now) }
+    ensures left { DaysLeft (state_of gate.now) names.old name_lines.old names.new name_lines.new (bare_head request.now) }
+    ensures kept { DaysKept (state_of gate.now) (bare_head request.now) result }
+{
+    days_by_head(heap, gate, names, name_lines, request)
 }

@@ -1,7 +1,7 @@
 use Rattle.finding.specs.Growing.{bare_head}
 use Rattle.gates.specs.Gates.{state_of}
 use Rattle.inquiries.proofs.DaysKept.{days-kept}
-use Rattle.inquiries.proofs.days.days_for.Goals as goal
+use Rattle.inquiries.proofs.days.days_by_head.Goals as goal
 use Rattle.std.proofs.Common.{Ok}
 
 pub returns-clause-kept : goal.returns-clause-kept
