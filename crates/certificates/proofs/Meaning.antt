@@ -10,37 +10,37 @@ use mathlib.Core.List.{Memᴰ}
 unfoldable pub Carries : List Certificate → ℕ → List Certificate → ℕ → Type 0
 Carries cs day ds later = (c : Certificate) → Memᴰ c cs → Valid day c → Memᴰ c ds × Valid later c
 
-pub means-carries : {cs ds : List Certificate} {day later : ℕ} → Carries cs day ds later →
+pub means_carries : {cs ds : List Certificate} {day later : ℕ} → Carries cs day ds later →
     {k : ℕ} {ns : List ℕ} {m : ℕ} → Means cs day k ns m → Means ds later k ns m
 unfolding Carries
-means-carries over itself = itself
-means-carries over (by c i v s q) = by c (over c i v).0 (over c i v).1 s (means-carries over q)
+means_carries over itself = itself
+means_carries over (by c i v s q) = by c (over c i v).0 (over c i v).1 s (means_carries over q)
 
-pub has-carries : {cs ds : List Certificate} {day later right owner : ℕ} → Carries cs day ds later →
+pub has_carries : {cs ds : List Certificate} {day later right owner : ℕ} → Carries cs day ds later →
     {d : Bool} {m : ℕ} → Has cs day right owner d m → Has ds later right owner d m
 unfolding Carries
-has-carries over owns = owns
-has-carries over (given c i v g h q) = given c (over c i v).0 (over c i v).1 g (has-carries over h) (means-carries over q)
+has_carries over owns = owns
+has_carries over (given c i v g h q) = given c (over c i v).0 (over c i v).1 g (has_carries over h) (means_carries over q)
 
 pub grows : Grows
 unfolding Carries
-grows cs ds more day right owner house (d, h) = (d, has-carries {day = day} {later = day} (λ c i v. (more c i, v)) h)
+grows cs ds more day right owner house (d, h) = (d, has_carries {day = day} {later = day} (λ c i v. (more c i, v)) h)
 
 pub steady : Steady
 unfolding Carries
 steady cs day later same right owner house =
-    ((λ (d, h). (d, has-carries (λ c i v. (i, (same c i).0 v)) h)), (λ (d, h). (d, has-carries (λ c i v. (i, (same c i).1 v)) h)))
+    ((λ (d, h). (d, has_carries (λ c i v. (i, (same c i).0 v)) h)), (λ (d, h). (d, has_carries (λ c i v. (i, (same c i).1 v)) h)))
 
-pub from-issuer : FromIssuer
-from-issuer cs day house names m nothing itself = (refl, refl)
-from-issuer cs day house names m nothing (by c i v s q) = absurd (nothing c i refl)
+pub from_issuer_lem : FromIssuer
+from_issuer_lem cs day house names m nothing itself = (refl, refl)
+from_issuer_lem cs day house names m nothing (by c i v s q) = absurd (nothing c i refl)
 
-has-from-owner : {cs : List Certificate} {day right owner : ℕ} {d : Bool} {m : ℕ} → IssuedNothing cs owner → Has cs day right owner d m → m ≡ owner
-has-from-owner nothing owns = refl
-has-from-owner nothing (given c i v g h q) = absurd (nothing c i (has-from-owner nothing h))
+has_from_owner : {cs : List Certificate} {day right owner : ℕ} {d : Bool} {m : ℕ} → IssuedNothing cs owner → Has cs day right owner d m → m ≡ owner
+has_from_owner nothing owns = refl
+has_from_owner nothing (given c i v g h q) = absurd (nothing c i (has_from_owner nothing h))
 
-pub from-owner : FromOwner
-from-owner cs day right owner house nothing (d, h) = has-from-owner nothing h
+pub from_owner_lem : FromOwner
+from_owner_lem cs day right owner house nothing (d, h) = has_from_owner nothing h
 
 -- the front of a chain first, then its rest from where the front leads
 pub joins : {cs : List Certificate} {day : ℕ} {k : ℕ} {names : List ℕ} {between m : ℕ} {rest : List ℕ} →
@@ -49,14 +49,14 @@ joins itself behind = behind
 joins {rest = rest} (by {rest = names} c i v s q) behind =
     by c i v s (rw (append_assoc (names_of c.subject) names rest) at (joins q behind))
 
-cut-after : {cs : List Certificate} {day k : ℕ} {chain : List ℕ} {m : ℕ} → Means cs day k chain m → (names rest : List ℕ) → chain ≡ names ++ rest →
+cut_after : {cs : List Certificate} {day k : ℕ} {chain : List ℕ} {m : ℕ} → Means cs day k chain m → (names rest : List ℕ) → chain ≡ names ++ rest →
     (between : ℕ) × Means cs day k names between × Means cs day between rest m
-cut-after {cs} {day} {k} {chain} {m} means [] rest e = (k, itself, subst (λ (xs : List ℕ). Means cs day k xs m) e means)
-cut-after itself (n ∷ names) rest e = let none : ◌≡◌ {A = ℕ} 0 1 = cc in absurd (omega (arith, none))
-cut-after (by {name = name} {rest = behind} c i v s q) (n ∷ names) rest e =
+cut_after {cs} {day} {k} {chain} {m} means [] rest e = (k, itself, subst (λ (xs : List ℕ). Means cs day k xs m) e means)
+cut_after itself (n ∷ names) rest e = let none : ◌≡◌ {A = ℕ} 0 1 = cc in absurd (omega (arith, none))
+cut_after (by {name = name} {rest = behind} c i v s q) (n ∷ names) rest e =
     let same : behind ≡ names ++ rest = cc in
-    let (between, front, back) = cut-after q (names_of c.subject ++ names) rest (ap (λ xs. names_of c.subject ++ xs) same ∙ sym (append_assoc (names_of c.subject) names rest)) in
+    let (between, front, back) = cut_after q (names_of c.subject ++ names) rest (ap (λ xs. names_of c.subject ++ xs) same ∙ sym (append_assoc (names_of c.subject) names rest)) in
     (between, by c i v (cc) front, back)
 
 pub splits : Splits
-splits cs day house names rest m = ((λ means. cut-after means names rest refl), (λ (between, front, back). joins front back))
+splits cs day house names rest m = ((λ means. cut_after means names rest refl), (λ (between, front, back). joins front back))

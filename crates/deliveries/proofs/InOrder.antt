@@ -18,30 +18,30 @@ pub record Along (g : State) (memory : List ℕ) (ds : List (List ℕ)) (g' : St
   pub left : memory' ≡ left_by_all g ds memory
   pub small : AllByRecursion Bytes ds
 
-pub none-along : (g : State) (memory : List ℕ) (answers : List Answer) → answers ≡ [] → Along g memory [] g answers memory
+pub none_along : (g : State) (memory : List ℕ) (answers : List Answer) → answers ≡ [] → Along g memory [] g answers memory
 unfolding receive_all left_by_all
-none-along g memory answers none = record { same = rw none; left = refl; small = tt }
+none_along g memory answers none = record { same = rw none; left = refl; small = tt }
 
-all-push-one : (g : State) (ds : List (List ℕ)) (d : List ℕ) → receive_all g (ds ++ (d ∷ [])) ≡ onto (receive_all g ds).1 (receive (receive_all g ds).0 d)
+all_push_one : (g : State) (ds : List (List ℕ)) (d : List ℕ) → receive_all g (ds ++ (d ∷ [])) ≡ onto (receive_all g ds).1 (receive (receive_all g ds).0 d)
 unfolding receive_all
-all-push-one g [] d = ap (λ (answers : List Answer). ((receive g d).0, answers)) (append-nil (receive g d).1)
-all-push-one g (e ∷ ds) d =
-    let behind = all-push-one (receive g e).0 ds d in
+all_push_one g [] d = ap (λ (answers : List Answer). ((receive g d).0, answers)) (append-nil (receive g d).1)
+all_push_one g (e ∷ ds) d =
+    let behind = all_push_one (receive g e).0 ds d in
     ap (onto (receive g e).1) behind
     ∙ ap (λ (answers : List Answer). ((receive (receive_all (receive g e).0 ds).0 d).0, answers)) (sym (append_assoc (receive g e).1 _ _))
 
-left-push-one : (g : State) (ds : List (List ℕ)) (d memory : List ℕ) → left_by_all g (ds ++ (d ∷ [])) memory ≡ left_by_delivery (receive_all g ds).0 d (left_by_all g ds memory)
+left_push_one : (g : State) (ds : List (List ℕ)) (d memory : List ℕ) → left_by_all g (ds ++ (d ∷ [])) memory ≡ left_by_delivery (receive_all g ds).0 d (left_by_all g ds memory)
 unfolding receive_all left_by_all
-left-push-one g [] d memory = refl
-left-push-one g (e ∷ ds) d memory = left-push-one (receive g e).0 ds d (left_by_delivery g e memory)
+left_push_one g [] d memory = refl
+left_push_one g (e ∷ ds) d memory = left_push_one (receive g e).0 ds d (left_by_delivery g e memory)
 
 module _ (g : State) (memory : List ℕ) (ds : List (List ℕ)) (g' next : State) (answers more : List Answer) (memory' after : List ℕ) where
   pub one_along : (d : List ℕ) → Bytes d → Along g memory ds g' answers memory' → (next, more) ≡ onto answers (receive g' d) → after ≡ left_by_delivery g' d memory' →
       Along g memory (ds ++ (d ∷ [])) next more after
   one_along d small so taken left = record {
-    same = taken ∙ (ap (λ (p : State × List Answer). onto p.1 (receive p.0 d)) so.same ∙ sym (all-push-one g ds d));
+    same = taken ∙ (ap (λ (p : State × List Answer). onto p.1 (receive p.0 d)) so.same ∙ sym (all_push_one g ds d));
     left = left ∙ (ap (λ (p : State × List Answer). left_by_delivery p.0 d memory') so.same
-        ∙ (ap (left_by_delivery (receive_all g ds).0 d) so.left ∙ sym (left-push-one g ds d memory)));
+        ∙ (ap (left_by_delivery (receive_all g ds).0 d) so.left ∙ sym (left_push_one g ds d memory)));
     small = All-push Bytes ds d so.small small;
   }
 

@@ -12,16 +12,16 @@ use borrow.Rule.Slice.PartMut.{put_mid, Post-is}
 use lib.Seq.{drop-append_seam}
 
 -- four bytes written into the head
-pub count-put : (request part : List ℕ) (count : ℕ) → part ≡ bytes 4 count → put_mid 4 4 request part ≡ take 4 request ++ (bytes 4 count ++ drop 8 request)
-count-put request part count is = ap₂ (λ xs ys. take 4 request ++ (xs ++ ys)) is (Post-is 4 8 request (omega arith))
+pub count_put : (request part : List ℕ) (count : ℕ) → part ≡ bytes 4 count → put_mid 4 4 request part ≡ take 4 request ++ (bytes 4 count ++ drop 8 request)
+count_put request part count is = ap₂ (λ xs ys. take 4 request ++ (xs ++ ys)) is (Post-is 4 8 request (omega arith))
 
 module _ (request : List ℕ) (enough : 8 ≤ length request) where
   whole : take (length request - 8) (drop 8 request) ≡ drop 8 request
   whole = take_all (length request - 8) (drop 8 request) (omega (arith, length-drop 8 request))
 
   -- what was written behind the head lies there
-  behind-head : (out : List ℕ) → drop 8 (put_mid 8 (length request - 8) request out) ≡ out
-  behind-head out =
+  behind_head : (out : List ℕ) → drop 8 (put_mid 8 (length request - 8) request out) ≡ out
+  behind_head out =
       let front : length (take 8 request) ≡ 8 = length-take-le 8 request enough in
       let nothing : drop (length request - 8) (drop 8 request) ≡ [] = drop_all (length request - 8) (drop 8 request) (omega (arith, length-drop 8 request)) in
       ap (λ ys. drop 8 (take 8 request ++ (out ++ ys))) nothing
@@ -29,17 +29,17 @@ module _ (request : List ℕ) (enough : 8 ≤ length request) where
 
   module _ (lines : List Line) (out : List ℕ) (fits : request_length lines ≤ length request) where
     -- the lines fit, so they were written
-    out-is : (r : Result ℕ TooShort) →
+    out_is : (r : Result ℕ TooShort) →
         MatchResult r (Wrote (bytes_of_sheet lines) (take (length request - 8) (drop 8 request)) out) (λ short. Refused (bytes_of_sheet lines) (take (length request - 8) (drop 8 request)) out short.needed) →
         out ≡ bytes_of_sheet lines ++ drop (request_length lines) request
-    out-is (Ok n) wrote =
+    out_is (Ok n) wrote =
         wrote.front ∙ (ap (λ xs. bytes_of_sheet lines ++ drop (length (bytes_of_sheet lines)) xs) whole ∙ ap (λ xs. bytes_of_sheet lines ++ xs) (drop-drop (length (bytes_of_sheet lines)) 8 request))
-    out-is (Err short) refused =
+    out_is (Err short) refused =
         let none : ⊥ = omega (arith, refused.long, refused.short, ap length whole, length-drop 8 request) in absurd none
 
-    pub sheet-put : (count : ℕ) → count ≡ length lines → (r : Result ℕ TooShort) →
+    pub sheet_put : (count : ℕ) → count ≡ length lines → (r : Result ℕ TooShort) →
         MatchResult r (Wrote (bytes_of_sheet lines) (take (length request - 8) (drop 8 request)) out) (λ short. Refused (bytes_of_sheet lines) (take (length request - 8) (drop 8 request)) out short.needed) →
         take 4 (put_mid 8 (length request - 8) request out) ++ (bytes 4 count ++ drop 8 (put_mid 8 (length request - 8) request out)) ≡ with_sheet request lines
-    sheet-put count many r wrote =
+    sheet_put count many r wrote =
         ap₂ (λ xs ys. xs ++ ys) (take-put_mid_below 8 (length request - 8) request out 4 (omega arith) enough)
-        (ap₂ (λ n xs. bytes 4 n ++ xs) many (behind-head out ∙ out-is r wrote))
+        (ap₂ (λ n xs. bytes 4 n ++ xs) many (behind_head out ∙ out_is r wrote))

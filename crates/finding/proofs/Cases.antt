@@ -2,7 +2,7 @@
 use Rattle.std.proofs.Common.{◌≡◌, ℕ, ◌<◌, List, [], ◌∷◌, length, is_some, Some, None, Decides, Option, sym, refl, subst, ⊎_elim, lit<}
 use Rattle.certificates.specs.Meaning.{May}
 use Rattle.certificates.specs.declared.Certificate.{Certificate}
-use Rattle.finding.proofs.Lawful.{finds-lawfully}
+use Rattle.finding.proofs.Lawful.{finds_lawfully}
 use Rattle.finding.specs.Cases.{Row, by_name, ring, ring_with_exit, doubled, had_only, not_passed_on, last_day, day_after, wrong_order, the_owner, ComesTrue, AllComeTrue}
 use Rattle.finding.specs.Finding.{find_sheet}
 use Rattle.keeping.specs.Keeping.{keep}
@@ -16,7 +16,7 @@ use Rattle.sheets.specs.Facts.{shown}
 use Rattle.sheets.specs.Laws.{Covers}
 use Rattle.sheets.specs.Sheets.{walks, reached, holds_from}
 use Rattle.std.specs.List.{AllByRecursion}
-use Rattle.turns.proofs.Members.{in-rising}
+use Rattle.turns.proofs.Members.{in_rising}
 use Rattle.turns.specs.Turns.{turn}
 use Rattle.turns.specs.Ways.{rising, meant_by, ways, first_to}
 use Rattle.wire.specs.Numbers.{bytes, take_numbers}
@@ -26,16 +26,16 @@ use mathlib.Core.List.{Memᴰ}
 covered : (houses : ℕ) (cs : List Certificate) → AllByRecursion (λ (c : Certificate). c.subject.house < houses) cs → Covers (rising houses) cs
 covered houses [] known c i = absurd (Memᴰ.not-nil i)
 covered houses (x ∷ cs) known c i = ⊎_elim
-    (λ e. subst (λ (y : Certificate). Memᴰ y.subject.house (rising houses)) (sym e) (in-rising houses x.subject.house known.0))
+    (λ e. subst (λ (y : Certificate). Memᴰ y.subject.house (rising houses)) (sym e) (in_rising houses x.subject.house known.0))
     (covered houses cs known.1 c)
     (Memᴰ.cases_cons i)
 
 -- a house may exactly if a sheet is found for it
-may-decided : (cs : List Certificate) (day house : ℕ) → Covers (rising 8) cs → (o : Option _) → find_sheet 8 cs day 3 1 house ≡ o → Decides (is_some o) (May cs day 3 1 house)
-may-decided cs day house covers None is =
-    ((λ none. impossible (cc)), λ may. absurd (((finds-lawfully 8 cs covers day 3 1).not_found house).0 is may))
-may-decided cs day house covers (Some lines) is =
-    ((λ some. sound cs day 3 1 house lines ((finds-lawfully 8 cs covers day 3 1).kept house lines is).hold), λ may. refl)
+may_decided : (cs : List Certificate) (day house : ℕ) → Covers (rising 8) cs → (o : Option _) → find_sheet 8 cs day 3 1 house ≡ o → Decides (is_some o) (May cs day 3 1 house)
+may_decided cs day house covers None is =
+    ((λ none. impossible (cc)), λ may. absurd (((finds_lawfully 8 cs covers day 3 1).not_found house).0 is may))
+may_decided cs day house covers (Some lines) is =
+    ((λ some. sound cs day 3 1 house lines ((finds_lawfully 8 cs covers day 3 1).kept house lines is).hold), λ may. refl)
 
 module _ (r : Row) where
   row : AllByRecursion (λ (c : Certificate). c.subject.house < 8) r.certificates →
@@ -50,12 +50,12 @@ module _ (r : Row) where
     names_are = means;
     sheet_is = sheet;
     check_is = check;
-    may_is = may-decided r.certificates r.day r.house (covered 8 r.certificates known) r.sheet sheet;
+    may_is = may_decided r.certificates r.day r.house (covered 8 r.certificates known) r.sheet sheet;
   }
 
-pub all-come-true : AllComeTrue
+pub all_come_true : AllComeTrue
 unfolding after round_from rounds_within turn ways first_to rising shown reached walks keep step_facts holds_from known_houses unshown lines_checked bytes take_numbers
-all-come-true = (
+all_come_true = (
   row by_name (lit< tt, (lit< tt, tt)) refl refl refl refl refl,
   (
     row ring (lit< tt, (lit< tt, tt)) refl refl refl refl refl,

@@ -8,12 +8,12 @@ use Rattle.finding.specs.declared.sheets_found.Unfound.TheVariants.{NoSheet, Too
 use Rattle.sheets.specs.Passing.{askable}
 use Rattle.sheets.specs.declared.checking.Question.{Question}
 
-pub all-grown : (cs : List Certificate) (q : Question) (names numbers request names' numbers' request' : List ℕ) (r : Result (Unit {0}) Unfound) →
+pub all_grown : (cs : List Certificate) (q : Question) (names numbers request names' numbers' request' : List ℕ) (r : Result (Unit {0}) Unfound) →
     askable q ≡ true → Filled cs q names numbers names' numbers' → RequestGrown cs q request request' r → GrownAnswered cs q names numbers request names' numbers' request' r
-all-grown cs q names numbers request names' numbers' request' (Ok u) asked filled grown = (asked, grown, filled)
-all-grown cs q names numbers request names' numbers' request' (Err NoSheet) asked filled (none, same) = (none, filled, same)
-all-grown cs q names numbers request names' numbers' request' (Err NoMemory) asked filled same = (inl filled, same)
-all-grown cs q names numbers request names' numbers' request' (Err OutOfRange) asked filled grown = absurd grown
-all-grown cs q names numbers request names' numbers' request' (Err WrongSize) asked filled grown = absurd grown
-all-grown cs q names numbers request names' numbers' request' (Err (TooShort needed)) asked filled grown = grown
-all-grown cs q names numbers request names' numbers' request' (Err Malformed) asked filled grown = grown
+all_grown cs q names numbers request names' numbers' request' (Ok u) asked filled grown = (asked, grown, filled)
+all_grown cs q names numbers request names' numbers' request' (Err NoSheet) asked filled (none, same) = (none, filled, same)
+all_grown cs q names numbers request names' numbers' request' (Err NoMemory) asked filled same = (inl filled, same)
+all_grown cs q names numbers request names' numbers' request' (Err OutOfRange) asked filled grown = absurd grown
+all_grown cs q names numbers request names' numbers' request' (Err WrongSize) asked filled grown = absurd grown
+all_grown cs q names numbers request names' numbers' request' (Err (TooShort needed)) asked filled grown = grown
+all_grown cs q names numbers request names' numbers' request' (Err Malformed) asked filled grown = grown

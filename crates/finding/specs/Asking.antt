@@ -70,14 +70,14 @@ module _ (cs : List Certificate) (q : Question) where
     pub short : length request < needed
 
   -- the lent memory holds what all lines that were written show, and their numbers beside it
-  pub record Filled (names name-lines names' name-lines' : List ℕ) : Type 0 where
+  pub record Filled (names name_lines names' name_lines' : List ℕ) : Type 0 where
     pub names_are : names' ≡ names_table cs (shown_at_end 1024 cs q.day q.right q.owner) (replicate 16384 0)
-    pub numbers_are : name-lines' ≡ name_numbers cs 0 (written 1024 cs q.day q.right q.owner) name-lines
+    pub numbers_are : name_lines' ≡ name_numbers cs 0 (written 1024 cs q.day q.right q.owner) name_lines
 
   -- or is as it was
-  pub record Untouched (names name-lines names' name-lines' : List ℕ) : Type 0 where
+  pub record Untouched (names name_lines names' name_lines' : List ℕ) : Type 0 where
     pub names_same : names' ≡ names
-    pub numbers_same : name-lines' ≡ name-lines
+    pub numbers_same : name_lines' ≡ name_lines
 
   -- what is answered once all lines were found
   abbrev pub RequestAnswered : List ℕ → List ℕ → Result ℕ Unfound → Type 0

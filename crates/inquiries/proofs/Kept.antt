@@ -30,15 +30,15 @@ module _ (owner : ℕ) (ds : List (List ℕ)) (small : AllByRecursion Bytes ds) 
   r : Ran owner ds here
   r = ran owner ds small
 
-  may-after : AllowedHere → MayAfter ds h.right owner h.house
-  may-after may = (r.same-may (today (happened ds)) h.right h.house).0 (rw (r.same-owner, r.is-today) at may)
+  may_after : AllowedHere → MayAfter ds h.right owner h.house
+  may_after may = (r.same_may (today (happened ds)) h.right h.house).0 (rw (r.same_owner, r.is_today) at may)
 
-  may-here : MayAfter ds h.right owner h.house → AllowedHere
-  may-here may = rw (r.same-owner, r.is-today) ((r.same-may (today (happened ds)) h.right h.house).1 may)
+  may_here : MayAfter ds h.right owner h.house → AllowedHere
+  may_here may = rw (r.same_owner, r.is_today) ((r.same_may (today (happened ds)) h.right h.house).1 may)
 
-  shut-out : owner < 1024 → (AllowedHere → ⊥) → ShutOut owner ds h
-  shut-out known none = record {
-    may_not = λ may. none (may-here may);
+  shut_out : owner < 1024 → (AllowedHere → ⊥) → ShutOut owner ds h
+  shut_out known none = record {
+    may_not = λ may. none (may_here may);
     never_opens = λ d bytes asks opens.
         let (h', rest, read, may) = (main.0 owner known ds small).only d bytes opens in
         let same : Some (asks.head, asks.rest) ≡ Some (h', rest) = sym asks.read ∙ read in
@@ -46,24 +46,24 @@ module _ (owner : ℕ) (ds : List (List ℕ)) (small : AllByRecursion Bytes ds) 
         let heads : asks.head ≡ h' = ap (λ (p : Head × List ℕ). p.0) pairs in
         let house : h'.house ≡ h.house = sym (ap (λ (x : Head). x.house) heads) ∙ asks.same_house in
         let right : h'.right ≡ h.right = sym (ap (λ (x : Head). x.right) heads) ∙ asks.same_right in
-        none (may-here (rw (house, right) at may));
+        none (may_here (rw (house, right) at may));
   }
 
-  kept-here : owner < 1024 → (result : Result (Vec ℕ Global) Unfound) → SheetWorth here.certificates (question_of here.day here.owner h) result → Promised owner ds h result
-  kept-here known (Ok whole) (may, opens) = (opens r.well, may-after may)
-  kept-here known (Err NoSheet) none = shut-out known none
-  kept-here known (Err NoMemory) worth = tt
-  kept-here known (Err OutOfRange) worth = tt
-  kept-here known (Err WrongSize) worth = tt
-  kept-here known (Err (TooShort needed)) worth = tt
-  kept-here known (Err Malformed) worth = tt
+  kept_here : owner < 1024 → (result : Result (Vec ℕ Global) Unfound) → SheetWorth here.certificates (question_of here.day here.owner h) result → Promised owner ds h result
+  kept_here known (Ok whole) (may, opens) = (opens r.well, may_after may)
+  kept_here known (Err NoSheet) none = shut_out known none
+  kept_here known (Err NoMemory) worth = tt
+  kept_here known (Err OutOfRange) worth = tt
+  kept_here known (Err WrongSize) worth = tt
+  kept_here known (Err (TooShort needed)) worth = tt
+  kept_here known (Err Malformed) worth = tt
 
-worth-at : (g g' : State) → g ≡ g' → (h : Head) (result : Result (Vec ℕ Global) Unfound) →
+worth_at : (g g' : State) → g ≡ g' → (h : Head) (result : Result (Vec ℕ Global) Unfound) →
     SheetWorth g.certificates (question_of g.day g.owner h) result → SheetWorth g'.certificates (question_of g'.day g'.owner h) result
-worth-at g g' same h result worth = subst (λ (x : State). SheetWorth x.certificates (question_of x.day x.owner h) result) same worth
+worth_at g g' same h result worth = subst (λ (x : State). SheetWorth x.certificates (question_of x.day x.owner h) result) same worth
 
-pub sheet-kept : (g : State) → g.owner < 1024 → (asked : Result Head Unfound) (names numbers names' numbers' : List ℕ) (result : Result (Vec ℕ Global) Unfound) →
+pub sheet_kept : (g : State) → g.owner < 1024 → (asked : Result Head Unfound) (names numbers names' numbers' : List ℕ) (result : Result (Vec ℕ Global) Unfound) →
     HeadTold g.certificates g.day g.owner names numbers names' numbers' result asked → SheetKept g asked result
-sheet-kept g known (Err e) names numbers names' numbers' result told = tt
-sheet-kept g known (Ok h) names numbers names' numbers' result told = λ ds small from.
-    kept-here g.owner ds small h known result (worth-at g (run g.owner ds) from h result told.1)
+sheet_kept g known (Err e) names numbers names' numbers' result told = tt
+sheet_kept g known (Ok h) names numbers names' numbers' result told = λ ds small from.
+    kept_here g.owner ds small h known result (worth_at g (run g.owner ds) from h result told.1)

@@ -12,7 +12,7 @@ use Rattle.inquiries.specs.Days.{on_day, MayOn, AskedOn, Left, as_it_was, by_fin
 use Rattle.inquiries.specs.Spans.{Covered, Apart, SpansOf, KnownBefore, BegunBefore, ended, gone_on}
 use Rattle.inquiries.specs.declared.spans.Span.{Span}
 use Rattle.registry.specs.Numbered.{certificate_at}
-use Rattle.sheets.proofs.Shown.{valid-true, valid-from, number_of}
+use Rattle.sheets.proofs.Shown.{valid_true, valid_from, number_of}
 use Rattle.sheets.specs.declared.checking.Question.{Question}
 use Rattle.std.specs.Bool.{Decides}
 use mathlib.Core.List.{Memᴰ}
@@ -24,18 +24,18 @@ pub record Along (cs : List Certificate) (q : Question) (names numbers : List �
   pub left : Left cs q names numbers names' numbers'
 
 module _ (cs : List Certificate) (q : Question) where
-  valid-stays : (day other : ℕ) (c : Certificate) → valid other c ≡ valid day c → Valid other c → Valid day c
-  valid-stays day other c same v = valid-true day c (sym same ∙ valid-from other c v)
+  valid_stays : (day other : ℕ) (c : Certificate) → valid other c ≡ valid day c → Valid other c → Valid day c
+  valid_stays day other c same v = valid_true day c (sym same ∙ valid_from other c v)
 
   -- nobody's right changes in a stretch
-  same-may : (day next : ℕ) → ((i : ℕ) → i < length cs → Stays day next (certificate_at cs i)) → (other : ℕ) → day ≤ other → other < next → MayOn cs q other ↔ MayOn cs q day
-  same-may day next stay other from below = steady cs other day each q.right q.owner q.house
+  same_may : (day next : ℕ) → ((i : ℕ) → i < length cs → Stays day next (certificate_at cs i)) → (other : ℕ) → day ≤ other → other < next → MayOn cs q other ↔ MayOn cs q day
+  same_may day next stay other from below = steady cs other day each q.right q.owner q.house
     where
       each : (c : Certificate) → Memᴰ c cs → Valid other c ↔ Valid day c
       each c i =
           let (n, few, is) = number_of i in
           let same : valid other c ≡ valid day c = subst (λ (x : Certificate). valid other x ≡ valid day x) is (stay n few other from below) in
-          (valid-stays day other c same, valid-stays other day c (sym same))
+          (valid_stays day other c same, valid_stays other day c (sym same))
 
   pub begins : (names numbers : List ℕ) → Along cs q names numbers 0 [] None names numbers
   unfolding Apart Covered
@@ -47,38 +47,38 @@ module _ (cs : List Certificate) (q : Question) where
 
   module _ (names numbers : List ℕ) (day : ℕ) (spans : List Span) (since : Option ℕ) (names₁ numbers₁ : List ℕ) (along : Along cs q names numbers day spans since names₁ numbers₁) where
     -- a day was asked on, and the next change is known
-    pub asked-until : (next : Option ℕ) → NextChange day next cs → (names₂ numbers₂ : List ℕ) (spans' : List Span) (after : Option ℕ) →
+    pub asked_until : (next : Option ℕ) → NextChange day next cs → (names₂ numbers₂ : List ℕ) (spans' : List Span) (after : Option ℕ) →
         AskedOn cs q day names₁ numbers₁ names₂ numbers₂ spans since spans' (Ok after) → KnownBefore (MayOn cs q) (until next) spans' after
-    asked-until next change names₂ numbers₂ spans' after (may, decides, goes, filled) =
-        let stepped = step (MayOn cs q) day (until next) change.later (same-may day (until next) change.all_stay) may spans since along.known decides in
+    asked_until next change names₂ numbers₂ spans' after (may, decides, goes, filled) =
+        let stepped = step (MayOn cs q) day (until next) change.later (same_may day (until next) change.all_stay) may spans since along.known decides in
         subst (λ (p : List Span × Option ℕ). KnownBefore (MayOn cs q) (until next) p.0 p.1) (sym goes) stepped
 
-    pub asked-left : (names₂ numbers₂ : List ℕ) (spans' : List Span) (after : Option ℕ) →
+    pub asked_left : (names₂ numbers₂ : List ℕ) (spans' : List Span) (after : Option ℕ) →
         AskedOn cs q day names₁ numbers₁ names₂ numbers₂ spans since spans' (Ok after) → Left cs q names numbers names₂ numbers₂
-    asked-left names₂ numbers₂ spans' after (may, decides, goes, filled) = by_finding day names₁ numbers₁ filled
+    asked_left names₂ numbers₂ spans' after (may, decides, goes, filled) = by_finding day names₁ numbers₁ filled
 
-    pub goes-along : (next : ℕ) → NextChange day (Some next) cs → (names₂ numbers₂ : List ℕ) (spans' : List Span) (after : Option ℕ) →
+    pub goes_along : (next : ℕ) → NextChange day (Some next) cs → (names₂ numbers₂ : List ℕ) (spans' : List Span) (after : Option ℕ) →
         AskedOn cs q day names₁ numbers₁ names₂ numbers₂ spans since spans' (Ok after) → Along cs q names numbers next spans' after names₂ numbers₂
-    goes-along next change names₂ numbers₂ spans' after asked = record {
+    goes_along next change names₂ numbers₂ spans' after asked = record {
       is_day = change.changes.0;
-      known = asked-until (Some next) change names₂ numbers₂ spans' after asked;
-      left = asked-left names₂ numbers₂ spans' after asked;
+      known = asked_until (Some next) change names₂ numbers₂ spans' after asked;
+      left = asked_left names₂ numbers₂ spans' after asked;
     }
 
-    pub all-along : NextChange day None cs → (names₂ numbers₂ : List ℕ) (spans' : List Span) (after : Option ℕ) →
+    pub all_along : NextChange day None cs → (names₂ numbers₂ : List ℕ) (spans' : List Span) (after : Option ℕ) →
         AskedOn cs q day names₁ numbers₁ names₂ numbers₂ spans since spans' (Ok after) → (last : ℕ) → last + 1 ≡ 2 ^ 32 → SpansOf (MayOn cs q) (ended spans' after last)
-    all-along change names₂ numbers₂ spans' after asked last is = finish (MayOn cs q) last spans' after is (asked-until None change names₂ numbers₂ spans' after asked)
+    all_along change names₂ numbers₂ spans' after asked last is = finish (MayOn cs q) last spans' after is (asked_until None change names₂ numbers₂ spans' after asked)
 
-    untouched-left : (names₂ numbers₂ : List ℕ) → Untouched cs (on_day q day) names₁ numbers₁ names₂ numbers₂ → Left cs q names numbers names₂ numbers₂
-    untouched-left names₂ numbers₂ same =
+    untouched_left : (names₂ numbers₂ : List ℕ) → Untouched cs (on_day q day) names₁ numbers₁ names₂ numbers₂ → Left cs q names numbers names₂ numbers₂
+    untouched_left names₂ numbers₂ same =
         subst (λ xs. Left cs q names numbers xs numbers₂) (sym same.names_same) (subst (λ xs. Left cs q names numbers names₁ xs) (sym same.numbers_same) along.left)
 
     -- where the day could not be asked on
-    pub unasked-left : (e : Unfound) (names₂ numbers₂ : List ℕ) (spans' : List Span) → AskedOn cs q day names₁ numbers₁ names₂ numbers₂ spans since spans' (Err e) → Left cs q names numbers names₂ numbers₂
-    unasked-left NoMemory names₂ numbers₂ spans' (inl filled) = by_finding day names₁ numbers₁ filled
-    unasked-left NoMemory names₂ numbers₂ spans' (inr same) = untouched-left names₂ numbers₂ same
-    unasked-left OutOfRange names₂ numbers₂ spans' (out, same) = untouched-left names₂ numbers₂ same
-    unasked-left WrongSize names₂ numbers₂ spans' (wrong, same) = untouched-left names₂ numbers₂ same
-    unasked-left NoSheet names₂ numbers₂ spans' asked = absurd asked
-    unasked-left (TooShort needed) names₂ numbers₂ spans' asked = absurd asked
-    unasked-left Malformed names₂ numbers₂ spans' asked = absurd asked
+    pub unasked_left : (e : Unfound) (names₂ numbers₂ : List ℕ) (spans' : List Span) → AskedOn cs q day names₁ numbers₁ names₂ numbers₂ spans since spans' (Err e) → Left cs q names numbers names₂ numbers₂
+    unasked_left NoMemory names₂ numbers₂ spans' (inl filled) = by_finding day names₁ numbers₁ filled
+    unasked_left NoMemory names₂ numbers₂ spans' (inr same) = untouched_left names₂ numbers₂ same
+    unasked_left OutOfRange names₂ numbers₂ spans' (out, same) = untouched_left names₂ numbers₂ same
+    unasked_left WrongSize names₂ numbers₂ spans' (wrong, same) = untouched_left names₂ numbers₂ same
+    unasked_left NoSheet names₂ numbers₂ spans' asked = absurd asked
+    unasked_left (TooShort needed) names₂ numbers₂ spans' asked = absurd asked
+    unasked_left Malformed names₂ numbers₂ spans' asked = absurd asked

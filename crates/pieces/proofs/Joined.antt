@@ -2,7 +2,7 @@
 use Rattle.std.proofs.Common.{◌≡◌, ℕ, ◌<◌, Bool, true, false, eqb, List, [], ◌∷◌, ◌++◌, Some, None, Option, sym, refl, ap, ◌∙◌, append_assoc, append-nil}
 use Rattle.pieces.proofs.PieceByPiece.{Taken}
 use Rattle.pieces.specs.Pieces.{gone_on, holds_events, KeptPiece, PiecesJoin}
-use Rattle.promise.proofs.OnCall.{one-after}
+use Rattle.promise.proofs.OnCall.{one_after}
 use Rattle.promise.specs.Promise.{Bytes}
 use Rattle.promise.specs.Requests.{receive, run}
 use Rattle.promise.specs.States.{State, deliver, deliver_within, fresh_gate}
@@ -13,19 +13,19 @@ use Rattle.std.proofs.ByRecursion.{All-append}
 use Rattle.std.proofs.lemmas.Bool.{not-true}
 
 -- answers are told apart from the gate
-same-gate : (g : State) (answers : List Answer) (rest : Option (List ℕ)) (more : List ℕ) → (gone_on g answers rest more).0 ≡ (gone_on g [] rest more).0
-same-gate g answers None more = refl
-same-gate g answers (Some rest) more = refl
+same_gate : (g : State) (answers : List Answer) (rest : Option (List ℕ)) (more : List ℕ) → (gone_on g answers rest more).0 ≡ (gone_on g [] rest more).0
+same_gate g answers None more = refl
+same_gate g answers (Some rest) more = refl
 
-pub piece-kept : (g : State) (answers : List Answer) (piece : List ℕ) (last : Bool) (g' : State) (answers' : List Answer) (rest : Option (List ℕ)) →
+pub piece_kept : (g : State) (answers : List Answer) (piece : List ℕ) (last : Bool) (g' : State) (answers' : List Answer) (rest : Option (List ℕ)) →
     Taken g answers piece last g' answers' rest → KeptPiece g piece last g' rest
-piece-kept g answers piece last g' answers' rest t owner ds front left fresh is way more small follows events =
-    let fresh-small : Bytes fresh = bytes_rest left fresh (rw is at t.bytes) in
+piece_kept g answers piece last g' answers' rest t owner ds front left fresh is way more small follows events =
+    let fresh_small : Bytes fresh = bytes_rest left fresh (rw is at t.bytes) in
     let joins : (front ++ fresh) ++ more ≡ front ++ (fresh ++ more) = append_assoc front fresh more in
     rw joins
-    (way (fresh ++ more) (All-append (λ b. b < 256) fresh more fresh-small small) (λ never. never_true never) (rw joins at events)
+    (way (fresh ++ more) (All-append (λ b. b < 256) fresh more fresh_small small) (λ never. never_true never) (rw joins at events)
     ∙ (ap (λ (s : List ℕ). (deliver g s).0) (sym (append_assoc left fresh more) ∙ ap (λ (s : List ℕ). s ++ more) (sym is))
-    ∙ (ap (λ (p : State × List Answer). p.0) (t.whole more small follows) ∙ same-gate g' answers' rest more)))
+    ∙ (ap (λ (p : State × List Answer). p.0) (t.whole more small follows) ∙ same_gate g' answers' rest more)))
   where
     never_true : {A : Type 0} → ◌≡◌ {A = Bool} false true → A
     never_true e = impossible (cc)
@@ -35,10 +35,10 @@ unfolding deliver_within
 received g [] events = refl
 received g (b ∷ s) events = rw (not-true (eqb b 4) events)
 
-pub pieces-join : PiecesJoin
+pub pieces_join : PiecesJoin
 unfolding deliver_within
-pieces-join = record {
-  begins = λ owner ds more small follows events. one-after (fresh_gate owner) ds more ∙ received (run owner ds) more events;
+pieces_join = record {
+  begins = λ owner ds more small follows events. one_after (fresh_gate owner) ds more ∙ received (run owner ds) more events;
   ends = λ owner ds d g events way. sym (ap (λ (s : List ℕ). run owner (ds ++ (s ∷ []))) (sym (append-nil d)) ∙ way [] tt (λ is. refl) (rw append-nil events));
   stops = λ owner ds front last g more small follows events way. sym (way more small follows events);
 }

@@ -1,7 +1,7 @@
 -- Events of a piece, whatever follows it. Assumes nothing.
 use Rattle.std.proofs.Common.{◌≡◌, ℕ, zero, suc, ◌+◌, ◌<◌, ◌≤◌, Bool, true, false, cond, not, ◌||◌, eqb, ltb, leb, ◌⊎◌, List, [], ◌∷◌, ◌++◌, map, length, Some, None, Ok, Err, Option, sym, refl, ap, ◌∙◌, inl, inr, ⊎_elim, append-nil, arith, length-append}
-use Rattle.promise.proofs.Told.{told-noting}
-use Rattle.promise.proofs.Readable.{rest-bytes}
+use Rattle.promise.proofs.Told.{told_noting}
+use Rattle.promise.proofs.Readable.{rest_bytes}
 use Rattle.promise.proofs.Shorter.{shorter}
 use Rattle.promise.specs.States.{State, Taken as AfterEvent, take, first_taken, Delivered, noting, deliver_within, deliver}
 use Rattle.promise.specs.Happened.{read_on}
@@ -32,35 +32,35 @@ module _ (g : State) (b : ℕ) (s : List ℕ) (small : Bytes (b ∷ s)) where
   abbrev first : AfterEvent × List ℕ
   first = first_taken g (event_read (b ∷ s))
 
-  first-bytes : Bytes first.1
-  first-bytes = rw (first_on g (event_read (b ∷ s))) (rest-bytes (b ∷ s) (event_read (b ∷ s)) (exactly (b ∷ s) small) small)
+  first_bytes : Bytes first.1
+  first_bytes = rw (first_on g (event_read (b ∷ s))) (rest_bytes (b ∷ s) (event_read (b ∷ s)) (exactly (b ∷ s) small) small)
 
-  first-shorter : length first.1 ≤ length s
-  first-shorter = omega (arith, ap length (first_on g (event_read (b ∷ s))), shorter (b ∷ s) (event_read (b ∷ s)) (exactly (b ∷ s) small) (omega arith))
+  first_shorter : length first.1 ≤ length s
+  first_shorter = omega (arith, ap length (first_on g (event_read (b ∷ s))), shorter (b ∷ s) (event_read (b ∷ s)) (exactly (b ∷ s) small) (omega arith))
 
 -- turns beyond the number of bytes change nothing
-same-turns : (n m : ℕ) (g : State) (s : List ℕ) → Bytes s → length s ≤ n → length s ≤ m → deliver_within n g s ≡ deliver_within m g s
+same_turns : (n m : ℕ) (g : State) (s : List ℕ) → Bytes s → length s ≤ n → length s ≤ m → deliver_within n g s ≡ deliver_within m g s
 unfolding deliver_within
-same-turns zero zero g s small p q = refl
-same-turns zero (suc m) g [] small p q = refl
-same-turns zero (suc m) g (b ∷ s) small p q = let none : ⊥ = omega arith in absurd none
-same-turns (suc n) zero g [] small p q = refl
-same-turns (suc n) zero g (b ∷ s) small p q = let none : ⊥ = omega arith in absurd none
-same-turns (suc n) (suc m) g [] small p q = refl
-same-turns (suc n) (suc m) g (b ∷ s) small p q =
+same_turns zero zero g s small p q = refl
+same_turns zero (suc m) g [] small p q = refl
+same_turns zero (suc m) g (b ∷ s) small p q = let none : ⊥ = omega arith in absurd none
+same_turns (suc n) zero g [] small p q = refl
+same_turns (suc n) zero g (b ∷ s) small p q = let none : ⊥ = omega arith in absurd none
+same_turns (suc n) (suc m) g [] small p q = refl
+same_turns (suc n) (suc m) g (b ∷ s) small p q =
     let t = first_taken g (event_read (b ∷ s)) in
-    let less = first-shorter g b s small in
-    ap (noting t.0.1) (same-turns n m t.0.0 t.1 (first-bytes g b s small) (omega arith) (omega arith))
+    let less = first_shorter g b s small in
+    ap (noting t.0.1) (same_turns n m t.0.0 t.1 (first_bytes g b s small) (omega arith) (omega arith))
 
 -- a delivery is its first event, and then the rest
-deliver-first : (g : State) (s : List ℕ) → Bytes s → 0 < length s →
+deliver_first : (g : State) (s : List ℕ) → Bytes s → 0 < length s →
     deliver g s ≡ noting (first_taken g (event_read s)).0.1 (deliver (first_taken g (event_read s)).0.0 (first_taken g (event_read s)).1)
 unfolding deliver_within
-deliver-first g [] small some = let none : ⊥ = omega arith in absurd none
-deliver-first g (b ∷ s) small some =
+deliver_first g [] small some = let none : ⊥ = omega arith in absurd none
+deliver_first g (b ∷ s) small some =
     let t = first_taken g (event_read (b ∷ s)) in
-    let less = first-shorter g b s small in
-    ap (noting t.0.1) (same-turns (length s) (length t.1) t.0.0 t.1 (first-bytes g b s small) (omega arith) (omega arith))
+    let less = first_shorter g b s small in
+    ap (noting t.0.1) (same_turns (length s) (length t.1) t.0.0 t.1 (first_bytes g b s small) (omega arith) (omega arith))
 
 -- an event that was read does not stop the reading, even if it is refused
 goes_on : (g : State) (e : Event) → stopped (take g e).1 ≡ false
@@ -69,14 +69,14 @@ goes_on g (Revoked n) = cond_both (ltb n (length g.certificates)) _ _ (λ (t : A
 goes_on g DayPassed = cond_both (ltb g.day 4294967295) _ _ (λ (t : AfterEvent). stopped t.1 ≡ false) (λ below. refl) (λ past. refl)
 
 -- the first event of a piece that more follows
-first-followed : (g : State) (more : List ℕ) (r : Reading) →
+first_followed : (g : State) (more : List ℕ) (r : Reading) →
     first_taken g (followed_by more r) ≡ ((first_taken g r).0, cond (stopped (first_taken g r).0.1) [] ((first_taken g r).1 ++ more))
-first-followed g more (Ok p) = rw (goes_on g p.0)
-first-followed g more (Err e) = refl
+first_followed g more (Ok p) = rw (goes_on g p.0)
+first_followed g more (Err e) = refl
 
-nothing-follows : (s : List ℕ) (r : Reading) → Exactly s r → r ≡ followed_by [] r
-nothing-follows s (Ok p) exact = ap (λ (rest : List ℕ). Ok (p.0, rest)) (sym (append-nil p.1))
-nothing-follows s (Err e) exact = ap (λ (rest : List ℕ). Err (e.0, rest)) (⊎_elim
+nothing_follows : (s : List ℕ) (r : Reading) → Exactly s r → r ≡ followed_by [] r
+nothing_follows s (Ok p) exact = ap (λ (rest : List ℕ). Ok (p.0, rest)) (sym (append-nil p.1))
+nothing_follows s (Err e) exact = ap (λ (rest : List ℕ). Err (e.0, rest)) (⊎_elim
     (λ out. rw out (sym (append-nil e.1)))
     (λ stop. rw stop.0 stop.1)
     (exact.stops e.0 e.1 refl))
@@ -84,7 +84,7 @@ nothing-follows s (Err e) exact = ap (λ (rest : List ℕ). Err (e.0, rest)) (�
 -- a piece is long enough, or nothing follows it
 pub read_first : (s more : List ℕ) → Bytes s → Bytes more → (533 ≤ length s) ⊎ (more ≡ []) → event_read (s ++ more) ≡ followed_by more (event_read s)
 read_first s more small small-more (inl long) = longest.enough s more small small-more long
-read_first s more small small-more (inr none) = rw (none, append-nil s) (nothing-follows s (event_read s) (exactly s small))
+read_first s more small small-more (inr none) = rw (none, append-nil s) (nothing_follows s (event_read s) (exactly s small))
 
 -- a piece was taken; there are no more answers than bytes, since each is to an event, which has at least one
 pub record Taken (g : State) (answers : List Answer) (piece : List ℕ) (last : Bool) (g' : State) (answers' : List Answer) (rest : Option (List ℕ)) : Type 0 where
@@ -93,16 +93,16 @@ pub record Taken (g : State) (answers : List Answer) (piece : List ℕ) (last : 
   pub fewer : length answers' + left_length rest ≤ length answers + length piece
 
 -- some events of a piece were taken: whatever follows, the rest gives the same as the whole
-pub record So-far (before : State) (noted : List Answer) (piece : List ℕ) (last : Bool) (g : State) (answers : List Answer) (rest : List ℕ) : Type 0 where
+pub record SoFar (before : State) (noted : List Answer) (piece : List ℕ) (last : Bool) (g : State) (answers : List Answer) (rest : List ℕ) : Type 0 where
   pub small : Bytes rest
   pub fewer : length answers + length rest ≤ length noted + length piece
   pub same : (more : List ℕ) → Bytes more → (last ≡ true → more ≡ []) → told noted (deliver before (piece ++ more)) ≡ told answers (deliver g (rest ++ more))
 
-pub none-taken : (g : State) (answers : List Answer) (piece : List ℕ) (last : Bool) → Bytes piece → So-far g answers piece last g answers piece
-none-taken g answers piece last small = record { small = small; fewer = omega arith; same = λ more small-more follows. refl }
+pub none_taken : (g : State) (answers : List Answer) (piece : List ℕ) (last : Bool) → Bytes piece → SoFar g answers piece last g answers piece
+none_taken g answers piece last small = record { small = small; fewer = omega arith; same = λ more small-more follows. refl }
 
 module _ (before g next : State) (noted : List Answer) (piece : List ℕ) (last : Bool) (answers : List Answer) (rest : List ℕ) (fault : Option Fault) (behind : List ℕ)
-    (so : So-far before noted piece last g answers rest) (is-ready : ready rest last ≡ true)
+    (so : SoFar before noted piece last g answers rest) (is-ready : ready rest last ≡ true)
     (taken : ((next, fault), behind) ≡ first_taken g (event_read rest)) (less : 0 < length rest → length behind < length rest) where
   some : 0 < length rest
   some = omega (arith, eqb-false (length rest) 0 (not-true (eqb (length rest) 0) (and_parts (not (eqb (length rest) 0)) (last || leb 533 (length rest)) is-ready).0))
@@ -111,75 +111,75 @@ module _ (before g next : State) (noted : List Answer) (piece : List ℕ) (last 
   enough = ⊎_elim inr (λ long. inl (leb-true 533 (length rest) long)) (or_cases last (leb 533 (length rest)) (and_parts (not (eqb (length rest) 0)) (last || leb 533 (length rest)) is-ready).1)
 
   -- the first event of what is left
-  one-step : (more : List ℕ) → Bytes more → (last ≡ true → more ≡ []) →
+  one_step : (more : List ℕ) → Bytes more → (last ≡ true → more ≡ []) →
       told noted (deliver before (piece ++ more)) ≡ told answers (noting fault (deliver next (cond (stopped fault) [] (behind ++ more))))
-  one-step more small-more follows =
+  one_step more small-more follows =
       let step : (AfterEvent × List ℕ) → Delivered = λ t. noting t.0.1 (deliver t.0.0 t.1) in
       let long : 0 < length (rest ++ more) = simp length-append (omega (arith, some)) in
       so.same more small-more follows
       ∙ ap (told answers)
-      (deliver-first g (rest ++ more) (All-append (λ b. b < 256) rest more so.small small-more) long
+      (deliver_first g (rest ++ more) (All-append (λ b. b < 256) rest more so.small small-more) long
       ∙ (ap (λ (r : Reading). step (first_taken g r)) (read_first rest more so.small small-more (⊎_elim inl (λ is. inr (follows is)) enough))
-      ∙ (ap step (first-followed g more (event_read rest))
+      ∙ (ap step (first_followed g more (event_read rest))
       ∙ ap (λ (t : AfterEvent × List ℕ). step (t.0, cond (stopped t.0.1) [] (t.1 ++ more))) (sym taken))))
 
-  rest-small : Bytes behind
-  rest-small = ap-rest rest some so.small taken
+  rest_small : Bytes behind
+  rest_small = ap_rest rest some so.small taken
     where
-      ap-rest : (r : List ℕ) → 0 < length r → Bytes r → ((next, fault), behind) ≡ first_taken g (event_read r) → Bytes behind
-      ap-rest [] none small is = let never : ⊥ = omega arith in absurd never
-      ap-rest (b ∷ r) there small is = rw (ap (λ (t : AfterEvent × List ℕ). t.1) is) (first-bytes g b r small)
+      ap_rest : (r : List ℕ) → 0 < length r → Bytes r → ((next, fault), behind) ≡ first_taken g (event_read r) → Bytes behind
+      ap_rest [] none small is = let never : ⊥ = omega arith in absurd never
+      ap_rest (b ∷ r) there small is = rw (ap (λ (t : AfterEvent × List ℕ). t.1) is) (first_bytes g b r small)
 
   -- an event has at most one answer
-  answered-once : (more-answers : List Answer) → more-answers ≡ answers ++ map Refused (option_to_list fault) → length more-answers ≤ length answers + 1
-  answered-once more-answers added = by-fault fault added
+  answered_once : (more-answers : List Answer) → more-answers ≡ answers ++ map Refused (option_to_list fault) → length more-answers ≤ length answers + 1
+  answered_once more-answers added = by_fault fault added
     where
-      by-fault : (o : Option Fault) → more-answers ≡ answers ++ map Refused (option_to_list o) → length more-answers ≤ length answers + 1
-      by-fault None is = omega (arith, ap length is, length-append answers [])
-      by-fault (Some f) is = omega (arith, ap length is, length-append answers (Refused f ∷ []))
+      by_fault : (o : Option Fault) → more-answers ≡ answers ++ map Refused (option_to_list o) → length more-answers ≤ length answers + 1
+      by_fault None is = omega (arith, ap length is, length-append answers [])
+      by_fault (Some f) is = omega (arith, ap length is, length-append answers (Refused f ∷ []))
 
   -- one event more
-  pub one-taken : (more-answers : List Answer) → stopped fault ≡ false → more-answers ≡ answers ++ map Refused (option_to_list fault) → So-far before noted piece last next more-answers behind
-  one-taken more-answers on added = record {
-    small = rest-small;
-    fewer = omega (arith, answered-once more-answers added, so.fewer, less some);
+  pub one_taken : (more-answers : List Answer) → stopped fault ≡ false → more-answers ≡ answers ++ map Refused (option_to_list fault) → SoFar before noted piece last next more-answers behind
+  one_taken more-answers on added = record {
+    small = rest_small;
+    fewer = omega (arith, answered_once more-answers added, so.fewer, less some);
     same = λ more small-more follows.
-        one-step more small-more follows
+        one_step more small-more follows
         ∙ (ap (λ (b : Bool). told answers (noting fault (deliver next (cond b [] (behind ++ more))))) on
-        ∙ (told-noting answers fault (deliver next (behind ++ more)) ∙ ap (λ (as' : List Answer). told as' (deliver next (behind ++ more))) (sym added)));
+        ∙ (told_noting answers fault (deliver next (behind ++ more)) ∙ ap (λ (as' : List Answer). told as' (deliver next (behind ++ more))) (sym added)));
   }
 
   -- nothing more is read
-  pub reading-ends : (more-answers : List Answer) → Bytes piece → stopped fault ≡ true → more-answers ≡ answers ++ map Refused (option_to_list fault) →
+  pub reading_ends : (more-answers : List Answer) → Bytes piece → stopped fault ≡ true → more-answers ≡ answers ++ map Refused (option_to_list fault) →
       Taken before noted piece last next more-answers None
   unfolding deliver_within
-  reading-ends more-answers small off added = record {
+  reading_ends more-answers small off added = record {
     bytes = small;
-    fewer = omega (arith, answered-once more-answers added, so.fewer, some);
+    fewer = omega (arith, answered_once more-answers added, so.fewer, some);
     whole = λ more small-more follows.
-        one-step more small-more follows
+        one_step more small-more follows
         ∙ (ap (λ (b : Bool). told answers (noting fault (deliver next (cond b [] (behind ++ more))))) off
-        ∙ (told-noting answers fault (next, []) ∙ ap (λ (given : List Answer). (next, given)) (append-nil (answers ++ map Refused (option_to_list fault)) ∙ sym added)));
+        ∙ (told_noting answers fault (next, []) ∙ ap (λ (given : List Answer). (next, given)) (append-nil (answers ++ map Refused (option_to_list fault)) ∙ sym added)));
   }
 
-pub piece-ends : (before g : State) (noted : List Answer) (piece : List ℕ) (last : Bool) (answers : List Answer) (rest : List ℕ) → Bytes piece →
-    So-far before noted piece last g answers rest → Taken before noted piece last g answers (Some rest)
-piece-ends before g noted piece last answers rest small so = record { bytes = small; whole = so.same; fewer = so.fewer }
+pub piece_ends : (before g : State) (noted : List Answer) (piece : List ℕ) (last : Bool) (answers : List Answer) (rest : List ℕ) → Bytes piece →
+    SoFar before noted piece last g answers rest → Taken before noted piece last g answers (Some rest)
+piece_ends before g noted piece last answers rest small so = record { bytes = small; whole = so.same; fewer = so.fewer }
 
 -- only a malformed event stops the reading
-pub others-go-on : (fault : Fault) → (fault ≡ Malformed → ⊥) → stops fault ≡ false
-others-go-on Malformed not = absurd (not refl)
-others-go-on OutOfRange not = refl
-others-go-on TooManyCertificates not = refl
-others-go-on UnknownCertificate not = refl
-others-go-on LastDay not = refl
-others-go-on TooManyLines not = refl
-others-go-on (LineCut line) not = refl
-others-go-on (LineOutOfRange line) not = refl
-others-go-on (LineUnknown line) not = refl
-others-go-on (NotValid line) not = refl
-others-go-on (NotGiven line) not = refl
-others-go-on (IssuerNotShown line) not = refl
-others-go-on (StepNotShown line step) not = refl
-others-go-on HouseNotShown not = refl
-others-go-on NoSheet not = refl
+pub others_go_on : (fault : Fault) → (fault ≡ Malformed → ⊥) → stops fault ≡ false
+others_go_on Malformed not = absurd (not refl)
+others_go_on OutOfRange not = refl
+others_go_on TooManyCertificates not = refl
+others_go_on UnknownCertificate not = refl
+others_go_on LastDay not = refl
+others_go_on TooManyLines not = refl
+others_go_on (LineCut line) not = refl
+others_go_on (LineOutOfRange line) not = refl
+others_go_on (LineUnknown line) not = refl
+others_go_on (NotValid line) not = refl
+others_go_on (NotGiven line) not = refl
+others_go_on (IssuerNotShown line) not = refl
+others_go_on (StepNotShown line step) not = refl
+others_go_on HouseNotShown not = refl
+others_go_on NoSheet not = refl

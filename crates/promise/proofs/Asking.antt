@@ -9,9 +9,9 @@ use Rattle.promise.specs.Requests.{decided, answer_head, receive}
 use Rattle.promise.specs.declared.answers.Answer.{Answer}
 use Rattle.promise.specs.declared.answers.Answer.TheVariants.{Open}
 use Rattle.sheets.proofs.Complete.{complete}
-use Rattle.sheets.proofs.SheetRead.{checks-exactly}
-use Rattle.sheets.proofs.Slots.{subjectHouses, subjects-covered}
-use Rattle.sheets.proofs.Written.{holds-writable}
+use Rattle.sheets.proofs.SheetRead.{checks_exactly_lem}
+use Rattle.sheets.proofs.Slots.{subject_houses, subjects_covered}
+use Rattle.sheets.proofs.Written.{holds_writable_lem}
 use Rattle.sheets.specs.Bytes.{line_bytes, bytes_of_sheet}
 use Rattle.sheets.specs.Sheets.{Line, holds}
 use Rattle.std.proofs.lemmas.Nat.{mod_below}
@@ -30,8 +30,8 @@ joined_small : {X : Type 0} (f : X → List ℕ) → ((x : X) → Bytes (f x)) �
 joined_small f small [] = tt
 joined_small f small (x ∷ xs) = All-append (λ b. b < 256) (f x) (flat_map f xs) (small x) (joined_small f small xs)
 
-sheet-small : (lines : List Line) → Bytes (bytes_of_sheet lines)
-sheet-small = joined_small line_bytes λ l. All-append (λ b. b < 256) (bytes 2 l.certificate) (flat_map (bytes 2) l.houses) (bytes_small 2 l.certificate) (joined_small (bytes 2) (bytes_small 2) l.houses)
+sheet_small : (lines : List Line) → Bytes (bytes_of_sheet lines)
+sheet_small = joined_small line_bytes λ l. All-append (λ b. b < 256) (bytes 2 l.certificate) (flat_map (bytes 2) l.houses) (bytes_small 2 l.certificate) (joined_small (bytes 2) (bytes_small 2) l.houses)
 
 -- a sheet for the house that holds, and is short enough for the gate
 pub record Sheet (g : State) (house right : ℕ) (lines : List Line) : Type 0 where
@@ -40,19 +40,19 @@ pub record Sheet (g : State) (house right : ℕ) (lines : List Line) : Type 0 wh
 
 module _ (g : State) (few : length g.certificates ≤ 1024) (house right : ℕ) where
   -- a sheet leads only to subjects' houses, and there are no more of these than certificates
-  pub sheet-for : May g.certificates g.day right g.owner house → (lines : List Line) × Sheet g house right lines
-  sheet-for may =
+  pub sheet_for : May g.certificates g.day right g.owner house → (lines : List Line) × Sheet g house right lines
+  sheet_for may =
       let cs = g.certificates in
-      let (lines, held, most) = complete cs (subjectHouses cs) (subjects-covered cs) g.day right g.owner house may in
+      let (lines, held, most) = complete cs (subject_houses cs) (subjects_covered cs) g.day right g.owner house may in
       (lines, record { held = held; short = omega (arith, simp length-map at most, mul-le-mul_left (length cs) few) })
 
-  pub lets-in : AllByRecursion WellFormed g.certificates → house < 1024 → right < 64 → (lines : List Line) → Sheet g house right lines →
+  pub lets_in : AllByRecursion WellFormed g.certificates → house < 1024 → right < 64 → (lines : List Line) → Sheet g house right lines →
       (receive g (request_bytes house right lines)).1 ≡ Open ∷ []
-  lets-in well known small lines s =
+  lets_in well known small lines s =
       let cs = g.certificates in
       let n = length lines in
       let head = head_read house right n known small (omega arith) (bytes_of_sheet lines) in
-      let writable = holds-writable cs well g.day right g.owner house lines s.held in
-      let found = (checks-exactly cs well few g.day right g.owner house n (bytes_of_sheet lines) (sheet-small lines)).1 (lines, refl, writable, refl, s.held) in
+      let writable = holds_writable_lem cs well g.day right g.owner house lines s.held in
+      let found = (checks_exactly_lem cs well few g.day right g.owner house n (bytes_of_sheet lines) (sheet_small lines)).1 (lines, refl, writable, refl, s.held) in
       ap (λ (a : Answer). a ∷ []) (ap (answer_head g) head
       ∙ rw (le-leb house 1023 (omega arith), le-leb right 63 (omega arith), le-leb n (length cs * 1024) s.short) (ap decided found))

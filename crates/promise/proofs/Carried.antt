@@ -1,10 +1,10 @@
 -- A right carries over between lists of certificates of which the same are valid on the day. Assumes nothing.
 use Rattle.std.proofs.Common.{◌≡◌, ℕ, Bool, true, false, cond, List, [], ◌∷◌, filter, sym, ap, ◌∙◌, ⊎_elim}
-use Rattle.certificates.proofs.Meaning.{Carries, has-carries}
+use Rattle.certificates.proofs.Meaning.{Carries, has_carries}
 use Rattle.certificates.specs.Certificates.{valid}
 use Rattle.certificates.specs.Meaning.{May}
 use Rattle.certificates.specs.declared.Certificate.{Certificate}
-use Rattle.sheets.proofs.Shown.{valid-from}
+use Rattle.sheets.proofs.Shown.{valid_from}
 use Rattle.std.proofs.lemmas.Bool.{cond_both}
 use mathlib.Core.List.Memᴰ
 use mathlib.Core.List.{Memᴰ}
@@ -16,18 +16,18 @@ module _ {X : Type 0} (test : X → Bool) where
       let behind = in_kept i passes in
       cond_both (test y) _ _ (Memᴰ x) (λ kept. Memᴰ.tail behind) (λ dropped. behind)
 
-  from-kept : {x : X} (xs : List X) → Memᴰ x (filter test xs) → Memᴰ x xs
-  from-kept [] i = i
-  from-kept {x} (y ∷ xs) i = either (test y) (from-kept xs) i
+  from_kept : {x : X} (xs : List X) → Memᴰ x (filter test xs) → Memᴰ x xs
+  from_kept [] i = i
+  from_kept {x} (y ∷ xs) i = either (test y) (from_kept xs) i
     where
       either : (t : Bool) → (Memᴰ x (filter test xs) → Memᴰ x xs) →
           Memᴰ x (cond t (y ∷ filter test xs) (filter test xs)) → Memᴰ x (y ∷ xs)
       either true behind j = ⊎_elim (λ e. Memᴰ.head e) (λ k. Memᴰ.tail (behind k)) (Memᴰ.cases_cons j)
       either false behind j = Memᴰ.tail (behind j)
 
-pub may-carries : (cs ds : List Certificate) (day right owner house : ℕ) → filter (valid day) cs ≡ filter (valid day) ds →
+pub may_carries : (cs ds : List Certificate) (day right owner house : ℕ) → filter (valid day) cs ≡ filter (valid day) ds →
     May cs day right owner house → May ds day right owner house
 unfolding Carries
-may-carries cs ds day right owner house same (d, h) =
-    let over : Carries cs day ds day = λ c i v. (from-kept (valid day) ds (rw same at (in_kept (valid day) i (valid-from day c v))), v) in
-    (d, has-carries over h)
+may_carries cs ds day right owner house same (d, h) =
+    let over : Carries cs day ds day = λ c i v. (from_kept (valid day) ds (rw same at (in_kept (valid day) i (valid_from day c v))), v) in
+    (d, has_carries over h)

@@ -11,60 +11,60 @@ use Rattle.std.specs.List.{AllByRecursion}
 use mathlib.Core.List.{Memᴰ}
 
 -- what is known of an answer that was given
-pub of-answer : {X E : Type 0} (r : Result X E) (P Q : X → Type 0) (R : E → Type 0) → ((x : X) → P x → Q x) → MatchResult r P R → IfOk r Q
-of-answer (Ok x) P Q R f p = f x p
-of-answer (Err e) P Q R f p = tt
+pub of_answer : {X E : Type 0} (r : Result X E) (P Q : X → Type 0) (R : E → Type 0) → ((x : X) → P x → Q x) → MatchResult r P R → IfOk r Q
+of_answer (Ok x) P Q R f p = f x p
+of_answer (Err e) P Q R f p = tt
 
 -- more deliveries at the end
-more-after : (g : State) (ds more : List (List ℕ)) → (receive_all g (ds ++ more)).0 ≡ (receive_all (receive_all g ds).0 more).0
+more_after : (g : State) (ds more : List (List ℕ)) → (receive_all g (ds ++ more)).0 ≡ (receive_all (receive_all g ds).0 more).0
 unfolding receive_all
-more-after g [] more = refl
-more-after g (d ∷ ds) more = more-after (receive g d).0 ds more
+more_after g [] more = refl
+more_after g (d ∷ ds) more = more_after (receive g d).0 ds more
 
-pub one-after : (g : State) (ds : List (List ℕ)) (d : List ℕ) → (receive_all g (ds ++ (d ∷ []))).0 ≡ (receive (receive_all g ds).0 d).0
+pub one_after : (g : State) (ds : List (List ℕ)) (d : List ℕ) → (receive_all g (ds ++ (d ∷ []))).0 ≡ (receive (receive_all g ds).0 d).0
 unfolding receive_all
-one-after g ds d = more-after g ds (d ∷ [])
+one_after g ds d = more_after g ds (d ∷ [])
 
-every-kept : (owner : ℕ) → owner < 1024 → (ds : List (List ℕ)) → AllByRecursion Bytes ds → (g : State) → g ≡ run owner ds → AllLetIn owner ds g
-every-kept owner known ds all g from house right small small-right may =
+every_kept : (owner : ℕ) → owner < 1024 → (ds : List (List ℕ)) → AllByRecursion Bytes ds → (g : State) → g ≡ run owner ds → AllLetIn owner ds g
+every_kept owner known ds all g from house right small small-right may =
     let (lines, opens, few) = (main.0 owner known ds all).every house right small small-right may in
     (lines, ap (λ (h : State). (receive h (request_bytes house right lines)).1) from ∙ opens, few)
 
-pub promise-kept : (g : State) (d : List ℕ) (g' : State) (answers : List Answer) → g.owner < 1024 → Bytes d → (g', answers) ≡ receive g d → KeptPromise g d g' answers
-promise-kept g d g' answers known small is = record {
-  goes_on = λ ds from. ap (λ (p : State × List Answer). p.0) is ∙ (ap (λ (h : State). (receive h d).0) from ∙ sym (one-after _ ds d));
+pub promise_kept : (g : State) (d : List ℕ) (g' : State) (answers : List Answer) → g.owner < 1024 → Bytes d → (g', answers) ≡ receive g d → KeptPromise g d g' answers
+promise_kept g d g' answers known small is = record {
+  goes_on = λ ds from. ap (λ (p : State × List Answer). p.0) is ∙ (ap (λ (h : State). (receive h d).0) from ∙ sym (one_after _ ds d));
   only = λ ds all from open-there.
       (main.0 g.owner known ds all).only d small
       (subst (λ (given : List Answer). Memᴰ Open given) (ap (λ (p : State × List Answer). p.1) is ∙ ap (λ (h : State). (receive h d).1) from) open-there);
-  every = λ ds all from. every-kept g.owner known ds all g from;
+  every = λ ds all from. every_kept g.owner known ds all g from;
 }
 
-pub answer-kept : (g : State) (d : List ℕ) (answered : Answer) → g.owner < 1024 → Bytes d → answered ≡ answer g d → KeptAnswer g d answered
-answer-kept g d answered known small is lines begins ds all from opens =
+pub answer_kept_lem : (g : State) (d : List ℕ) (answered : Answer) → g.owner < 1024 → Bytes d → answered ≡ answer g d → KeptAnswer g d answered
+answer_kept_lem g d answered known small is lines begins ds all from opens =
     let same : (receive g d).1 ≡ answer g d ∷ [] = rw begins in
-    (promise-kept g d (receive g d).0 (receive g d).1 known small refl).only ds all from (rw same (Memᴰ.head (sym opens ∙ is)))
+    (promise_kept g d (receive g d).0 (receive g d).1 known small refl).only ds all from (rw same (Memᴰ.head (sym opens ∙ is)))
 
-each-kept : (owner : ℕ) → owner < 1024 → (before ds : List (List ℕ)) → AllByRecursion Bytes before → AllByRecursion Bytes ds → (g : State) → g ≡ run owner before →
+each_kept : (owner : ℕ) → owner < 1024 → (before ds : List (List ℕ)) → AllByRecursion Bytes before → AllByRecursion Bytes ds → (g : State) → g ≡ run owner before →
     EachLetIn owner before ds (receive_all g ds).1
 unfolding receive_all EachLetIn
-each-kept owner known before [] small-before small g from = refl
-each-kept owner known before (d ∷ ds) small-before small g from = (
+each_kept owner known before [] small-before small g from = refl
+each_kept owner known before (d ∷ ds) small-before small g from = (
   (receive g d).1,
   (receive_all (receive g d).0 ds).1,
   refl,
   ap (λ (h : State). (receive h d).1) from,
   (λ open-there. (main.0 owner known before small-before).only d small.0
       (subst (λ (given : List Answer). Memᴰ Open given) (ap (λ (h : State). (receive h d).1) from) open-there)),
-  each-kept owner known (before ++ (d ∷ [])) ds (All-push Bytes before d small-before small.0) small.1 (receive g d).0
-      (ap (λ (h : State). (receive h d).0) from ∙ sym (one-after _ before d)),
+  each_kept owner known (before ++ (d ∷ [])) ds (All-push Bytes before d small-before small.0) small.1 (receive g d).0
+      (ap (λ (h : State). (receive h d).0) from ∙ sym (one_after _ before d)),
 )
 
-pub all-kept : (g : State) (ds : List (List ℕ)) (g' : State) (answers : List Answer) → g.owner < 1024 → AllByRecursion Bytes ds → (g', answers) ≡ receive_all g ds → KeptAll g ds g' answers
-all-kept g ds g' answers known small is =
+pub all_kept : (g : State) (ds : List (List ℕ)) (g' : State) (answers : List Answer) → g.owner < 1024 → AllByRecursion Bytes ds → (g', answers) ≡ receive_all g ds → KeptAll g ds g' answers
+all_kept g ds g' answers known small is =
     let goes : (before : List (List ℕ)) → g ≡ run g.owner before → g' ≡ run g.owner (before ++ ds)
-    = λ before from. ap (λ (p : State × List Answer). p.0) is ∙ (ap (λ (h : State). (receive_all h ds).0) from ∙ sym (more-after _ before ds)) in
+    = λ before from. ap (λ (p : State × List Answer). p.0) is ∙ (ap (λ (h : State). (receive_all h ds).0) from ∙ sym (more_after _ before ds)) in
     record {
       goes_on = goes;
-      only = λ before all from. subst (EachLetIn g.owner before ds) (sym (ap (λ (p : State × List Answer). p.1) is)) (each-kept g.owner known before ds all small g from);
-      every = λ before all from. every-kept g.owner known (before ++ ds) (All-append Bytes before ds all small) g' (goes before from);
+      only = λ before all from. subst (EachLetIn g.owner before ds) (sym (ap (λ (p : State × List Answer). p.1) is)) (each_kept g.owner known before ds all small g from);
+      every = λ before all from. every_kept g.owner known (before ++ ds) (All-append Bytes before ds all small) g' (goes before from);
     }

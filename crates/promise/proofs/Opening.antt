@@ -20,23 +20,23 @@ passed_on : (t : Bool) (a : Answer) (fault : Fault) → Open ≡ cond t a (Refus
 passed_on true a fault e = e
 passed_on false a fault e = impossible (cc)
 
-decided-open : (r : Result (Unit {0}) Fault) → Open ≡ decided r → r ≡ Ok tt
-decided-open (Ok u) e = refl
-decided-open (Err fault) e = impossible (cc)
+decided_open : (r : Result (Unit {0}) Fault) → Open ≡ decided r → r ≡ Ok tt
+decided_open (Ok u) e = refl
+decided_open (Err fault) e = impossible (cc)
 
-open-found : (g : State) (t : Taken Head) → Open ≡ answer_head g t → (h : Head) × (rest : List ℕ) × (t ≡ Some (h, rest)) × Found g h rest
-open-found g None e = impossible (cc)
-open-found g (Some p) e =
+open_found : (g : State) (t : Taken Head) → Open ≡ answer_head g t → (h : Head) × (rest : List ℕ) × (t ≡ Some (h, rest)) × Found g h rest
+open_found g None e = impossible (cc)
+open_found g (Some p) e =
     let h = p.0 in
     let within = passed_on (leb h.house 1023 && leb h.right 63) _ OutOfRange e in
-    (h, p.1, refl, decided-open _ (passed_on (leb h.lines (length g.certificates * 1024)) _ TooManyLines within))
+    (h, p.1, refl, decided_open _ (passed_on (leb h.lines (length g.certificates * 1024)) _ TooManyLines within))
 
 -- among the answers to events none is open
-asked-open : (t : Bool) (g later : State) (a : Answer) (faults : List Fault) →
+asked_open : (t : Bool) (g later : State) (a : Answer) (faults : List Fault) →
     Memᴰ Open (cond {A = State × List Answer} t (g, a ∷ []) (later, map Refused faults)).1 → Open ≡ a
-asked-open true g later a faults i = Memᴰ.eq_of_singleton i
-asked-open false g later a faults i = let (fault, j, e) = Memᴰ.of_map Refused faults i in impossible (cc)
+asked_open true g later a faults i = Memᴰ.eq_of_singleton i
+asked_open false g later a faults i = let (fault, j, e) = Memᴰ.of_map Refused faults i in impossible (cc)
 
-pub opened-found : (g : State) (d : List ℕ) → Memᴰ Open (receive g d).1 → (h : Head) × (rest : List ℕ) × (take_head d ≡ Some (h, rest)) × Found g h rest
-opened-found g [] i = absurd (Memᴰ.not-nil i)
-opened-found g (b ∷ s) i = open-found g (take_head (b ∷ s)) (asked-open (eqb b 4) g _ (answer g (b ∷ s)) (deliver g (b ∷ s)).1 i)
+pub opened_found : (g : State) (d : List ℕ) → Memᴰ Open (receive g d).1 → (h : Head) × (rest : List ℕ) × (take_head d ≡ Some (h, rest)) × Found g h rest
+opened_found g [] i = absurd (Memᴰ.not-nil i)
+opened_found g (b ∷ s) i = open_found g (take_head (b ∷ s)) (asked_open (eqb b 4) g _ (answer g (b ∷ s)) (deliver g (b ∷ s)).1 i)

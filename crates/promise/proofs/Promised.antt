@@ -1,17 +1,17 @@
 -- The promise of the whole. Assumes nothing.
 use Rattle.std.proofs.Common.{ℕ, ◌≤◌, List, length, arith}
-use Rattle.certificates.proofs.Meaning.{grows, from-owner}
+use Rattle.certificates.proofs.Meaning.{grows, from_owner_lem}
 use Rattle.certificates.specs.Meaning.{May}
-use Rattle.promise.proofs.Asking.{sheet-for, lets-in}
-use Rattle.promise.proofs.HeadRead.{lines-bytes}
-use Rattle.promise.proofs.Opening.{opened-found}
+use Rattle.promise.proofs.Asking.{sheet_for, lets_in}
+use Rattle.promise.proofs.HeadRead.{lines_bytes}
+use Rattle.promise.proofs.Opening.{opened_found}
 use Rattle.promise.proofs.Ran.{Ran, ran}
 use Rattle.promise.specs.States.{State}
 use Rattle.promise.specs.Happened.{happened, today}
 use Rattle.promise.specs.Promise.{Bytes, MayAfter, LetIn, AllLetIn, Main}
 use Rattle.promise.specs.Requests.{receive, run}
 use Rattle.promise.specs.declared.answers.Answer.TheVariants.{Open}
-use Rattle.sheets.proofs.SheetRead.{checks-exactly}
+use Rattle.sheets.proofs.SheetRead.{checks_exactly_lem}
 use Rattle.sheets.proofs.Sound.{sound}
 use mathlib.Core.List.{Memᴰ}
 
@@ -23,27 +23,27 @@ module _ (owner : ℕ) (ds : List (List ℕ)) (g : State) (r : Ran owner ds g) w
   abbrev MayHere : ℕ → ℕ → Type 0
   MayHere right house = May g.certificates g.day right g.owner house
 
-  after-here : (right house : ℕ) → MayHere right house → MayAfter ds right owner house
-  after-here right house may = (r.same-may (today (happened ds)) right house).0 (rw (r.same-owner, r.is-today) at may)
+  after_here : (right house : ℕ) → MayHere right house → MayAfter ds right owner house
+  after_here right house may = (r.same_may (today (happened ds)) right house).0 (rw (r.same_owner, r.is_today) at may)
 
-  here-after : (right house : ℕ) → MayAfter ds right owner house → MayHere right house
-  here-after right house may = rw (r.same-owner, r.is-today) ((r.same-may (today (happened ds)) right house).1 may)
+  here_after : (right house : ℕ) → MayAfter ds right owner house → MayHere right house
+  here_after right house may = rw (r.same_owner, r.is_today) ((r.same_may (today (happened ds)) right house).1 may)
 
-  only-these : (d : List ℕ) → Bytes d → Memᴰ Open (receive g d).1 → LetIn owner ds d
-  only-these d small i =
-      let (h, rest, is, found) = opened-found g d i in
-      let (lines, many, writable, same, held) = (checks-exactly g.certificates r.well few g.day h.right g.owner h.house h.lines rest (lines-bytes d small h rest is)).0 found in
-      (h, rest, is, after-here h.right h.house (sound g.certificates g.day h.right g.owner h.house lines held))
+  only_these : (d : List ℕ) → Bytes d → Memᴰ Open (receive g d).1 → LetIn owner ds d
+  only_these d small i =
+      let (h, rest, is, found) = opened_found g d i in
+      let (lines, many, writable, same, held) = (checks_exactly_lem g.certificates r.well few g.day h.right g.owner h.house h.lines rest (lines_bytes d small h rest is)).0 found in
+      (h, rest, is, after_here h.right h.house (sound g.certificates g.day h.right g.owner h.house lines held))
 
-  all-these : AllLetIn owner ds g
-  all-these house right known small may =
-      let (lines, s) = sheet-for g few house right (here-after right house may) in
-      (lines, lets-in g few house right r.well known small lines s, rw r.all-came at s.short)
+  all_these : AllLetIn owner ds g
+  all_these house right known small may =
+      let (lines, s) = sheet_for g few house right (here_after right house may) in
+      (lines, lets_in g few house right r.well known small lines s, rw r.all_came at s.short)
 
 pub main : Main
 main = (
   (λ owner known ds small.
       let r = ran owner ds small in
-      record { only = only-these owner ds (run owner ds) r; every = all-these owner ds (run owner ds) r }),
-  (grows, from-owner),
+      record { only = only_these owner ds (run owner ds) r; every = all_these owner ds (run owner ds) r }),
+  (grows, from_owner_lem),
 )

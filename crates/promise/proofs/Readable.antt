@@ -14,32 +14,32 @@ use Rattle.wire.specs.declared.events.Event.{Event}
 use Rattle.wire.specs.declared.faults.Fault.{Fault}
 
 module _ (s : List ℕ) where
-  pub rest-bytes : (r : Reading) → Exactly s r → Bytes s → Bytes (read_on r)
-  rest-bytes (Ok p) exact small = bytes_rest (bytes_of_event p.0) p.1 (rw ((exact.reads p.0 p.1).0 refl).1 at small)
-  rest-bytes (Err e) exact small = elim (exact.stops e.0 e.1 refl) [
+  pub rest_bytes : (r : Reading) → Exactly s r → Bytes s → Bytes (read_on r)
+  rest_bytes (Ok p) exact small = bytes_rest (bytes_of_event p.0) p.1 (rw ((exact.reads p.0 p.1).0 refl).1 at small)
+  rest_bytes (Err e) exact small = elim (exact.stops e.0 e.1 refl) [
     | inl out ↦
         let (f, fits, faulty, is) = (exact.refuses e.1).0 (ap (λ (fault : Fault). Err (fault, e.1)) out) in
         bytes_rest (1 ∷ fields_bytes f) e.1 (rw is at small)
     | inr stop ↦ rw stop.1 tt
   ]
 
-  noted-writable : (r : Reading) → Exactly s r → (events : List Event) → AllByRecursion Writable events → AllByRecursion Writable (noted r events)
-  noted-writable (Ok p) exact events behind = (((exact.reads p.0 p.1).0 refl).0, behind)
-  noted-writable (Err e) exact events behind = behind
+  noted_writable : (r : Reading) → Exactly s r → (events : List Event) → AllByRecursion Writable events → AllByRecursion Writable (noted r events)
+  noted_writable (Ok p) exact events behind = (((exact.reads p.0 p.1).0 refl).0, behind)
+  noted_writable (Err e) exact events behind = behind
 
-within-writable : (n : ℕ) (s : List ℕ) → Bytes s → AllByRecursion Writable (events_within n s)
+within_writable : (n : ℕ) (s : List ℕ) → Bytes s → AllByRecursion Writable (events_within n s)
 unfolding events_within
-within-writable zero s small = tt
-within-writable (suc n) [] small = tt
-within-writable (suc n) (b ∷ s) small =
+within_writable zero s small = tt
+within_writable (suc n) [] small = tt
+within_writable (suc n) (b ∷ s) small =
     let r = event_read (b ∷ s) in
     let exact = exactly (b ∷ s) small in
-    noted-writable (b ∷ s) r exact (events_within n (read_on r)) (within-writable n (read_on r) (rest-bytes (b ∷ s) r exact small))
+    noted_writable (b ∷ s) r exact (events_within n (read_on r)) (within_writable n (read_on r) (rest_bytes (b ∷ s) r exact small))
 
-events-writable : (d : List ℕ) → Bytes d → AllByRecursion Writable (events_of d)
-events-writable [] small = tt
-events-writable (b ∷ s) small = cond_both (eqb b 4) _ _ (AllByRecursion Writable) (λ request. tt) (λ events. within-writable (length (b ∷ s)) (b ∷ s) small)
+events_writable : (d : List ℕ) → Bytes d → AllByRecursion Writable (events_of d)
+events_writable [] small = tt
+events_writable (b ∷ s) small = cond_both (eqb b 4) _ _ (AllByRecursion Writable) (λ request. tt) (λ events. within_writable (length (b ∷ s)) (b ∷ s) small)
 
-pub happened-writable : (ds : List (List ℕ)) → AllByRecursion Bytes ds → AllByRecursion Writable (happened ds)
-happened-writable [] small = tt
-happened-writable (d ∷ ds) small = All-append Writable (events_of d) (happened ds) (events-writable d small.0) (happened-writable ds small.1)
+pub happened_writable : (ds : List (List ℕ)) → AllByRecursion Bytes ds → AllByRecursion Writable (happened ds)
+happened_writable [] small = tt
+happened_writable (d ∷ ds) small = All-append Writable (events_of d) (happened ds) (events_writable d small.0) (happened_writable ds small.1)

@@ -25,6 +25,6 @@ shorter s (Err e) exact some = elim (exact.stops e.0 e.1 refl) [
   | inr stop ↦ omega (arith, ap length stop.1)
 ]
 
-pub read-writable : (s : List ℕ) (r : Result (Event × Bor (List ℕ)) Refusal) → Exactly s (reading_of r) → IfOk r (λ p. Writable p.0)
-read-writable s (Ok p) exact = ((exact.reads p.0 p.1.now).0 refl).0
-read-writable s (Err e) exact = tt
+pub read_writable : (s : List ℕ) (r : Result (Event × Bor (List ℕ)) Refusal) → Exactly s (reading_of r) → IfOk r (λ p. Writable p.0)
+read_writable s (Ok p) exact = ((exact.reads p.0 p.1.now).0 refl).0
+read_writable s (Err e) exact = tt

@@ -1,9 +1,9 @@
 -- The index beside the certificates, when one comes or is taken back. Assumes nothing.
 use Rattle.std.proofs.Common.{◌≡◌, ℕ, ◌+◌, ◌<◌, Bool, true, false, cond, ◌&&◌, eqb, ltb, List, [], ◌∷◌, ◌++◌, length, take, drop, vec_items, refl, ap, ◌∙◌, arith}
 use Rattle.certificates.specs.declared.Certificate.{Certificate}
-use Rattle.registry.proofs.Kept.{rowOf-push, length-revoked, rowOf-revoked}
-use Rattle.registry.proofs.Lookup.{absent, rowIn-more, rowIn-inserted}
-use Rattle.registry.proofs.Order.{rising-inserted}
+use Rattle.registry.proofs.Kept.{row_of_push, length_revoked, row_of_revoked}
+use Rattle.registry.proofs.Lookup.{absent, row_in_more, row_in_inserted}
+use Rattle.registry.proofs.Order.{rising_inserted}
 use Rattle.registry.specs.Index.{is_of, Rising, Place, row_in, Agrees, Numbers}
 use Rattle.registry.specs.Names.{NewName, NoNewName}
 use Rattle.registry.specs.Numbered.{certificates_of, revoke_at}
@@ -24,17 +24,17 @@ pub record Indexes (es : List Entry) (cs : List Certificate) : Type 0 where
 pub indexed : (g : Registry) → Indexes (vec_items g.index) (certificates_of g)
 indexed g = record { rising = g.rising; agrees = g.agrees; numbers = g.numbers }
 
-pub none-indexed : Indexes [] []
+pub none_indexed : Indexes [] []
 unfolding row_in row_of
-none-indexed = record {
+none_indexed = record {
   rising = λ k d within. let never : ⊥ = omega arith in absurd never;
   agrees = λ house name. refl;
   numbers = λ k d low within. let never : ⊥ = omega arith in absurd never;
 }
 
-known-row : (states : Bool) (r n : ℕ) → (states ≡ true → r < n) → cond (ltb r n) r (n + 1) ≡ cond (ltb r n) r (cond states n (n + 1))
-known-row true r n known = let less = known refl in grind (arith, nat_tests)
-known-row false r n known = refl
+known_row : (states : Bool) (r n : ℕ) → (states ≡ true → r < n) → cond (ltb r n) r (n + 1) ≡ cond (ltb r n) r (cond states n (n + 1))
+known_row true r n known = let less = known refl in grind (arith, nat_tests)
+known_row false r n known = refl
 
 new_row : (states : Bool) (r n : ℕ) → (states ≡ true → r ≡ n) → cond states n (cond (ltb r n) r (n + 1)) ≡ cond (ltb r n) r (cond states n (n + 1))
 new_row true r n new = let same = new refl in grind (arith, nat_tests)
@@ -43,31 +43,31 @@ new_row false r n new = refl
 module _ (es : List Entry) (cs : List Certificate) (so : Indexes es cs) where
   module _ (c : Certificate) where
     rows_more : (house name : ℕ) → row_in es house name (length (cs ++ (c ∷ []))) ≡ cond (ltb (row_of cs house name) (length cs)) (row_of cs house name) (length cs + 1)
-    rows_more house name = rw (length_push cs c, rowIn-more house name (length cs) es so.numbers, so.agrees house name)
+    rows_more house name = rw (length_push cs c, row_in_more house name (length cs) es so.numbers, so.agrees house name)
 
     numbers_more : Numbers es (cs ++ (c ∷ []))
     numbers_more k d low within = rw (length_push cs c) (omega (arith, so.numbers k d low within))
 
     -- a certificate more, without a new name
-    pub indexes-push : NoNewName cs c → Indexes es (cs ++ (c ∷ []))
-    indexes-push known = record {
+    pub indexes_push : NoNewName cs c → Indexes es (cs ++ (c ∷ []))
+    indexes_push known = record {
       rising = so.rising;
       agrees = λ house name.
-          rw (rows_more house name, rowOf-push cs c house name) (known-row (states_name house name c) (row_of cs house name) (length cs) (known house name));
+          rw (rows_more house name, row_of_push cs c house name) (known_row (states_name house name c) (row_of cs house name) (length cs) (known house name));
       numbers = numbers_more;
     }
 
     -- one with a new name, which is entered at its place
-    pub indexes-entered : (place : ℕ) (x : Entry) → Place es x.house x.name place → x.house ≡ c.issuer → x.row ≡ length cs → NewName cs c x.name →
+    pub indexes_entered : (place : ℕ) (x : Entry) → Place es x.house x.name place → x.house ≡ c.issuer → x.row ≡ length cs → NewName cs c x.name →
         Indexes (insert es place x) (cs ++ (c ∷ []))
-    indexes-entered place x at issued next it =
+    indexes_entered place x at issued next it =
         let first : row_of cs x.house x.name ≡ length cs = rw issued it.first in
         let new = absent x.house x.name (length cs) es so.numbers (so.agrees x.house x.name ∙ first) in
         record {
-          rising = rising-inserted es so.rising place x at new;
+          rising = rising_inserted es so.rising place x at new;
           agrees = λ house name.
               let says : states_name house name c ≡ is_of x house name = rw issued (ap (λ s. eqb c.issuer house && says_name name s) it.stated) in
-              rw (rowIn-inserted es place x house name (length (cs ++ (c ∷ []))) new, rows_more house name, rowOf-push cs c house name, says, next)
+              rw (row_in_inserted es place x house name (length (cs ++ (c ∷ []))) new, rows_more house name, row_of_push cs c house name, says, next)
               (new_row (is_of x house name) (row_of cs house name) (length cs) (λ is.
               let same = and_parts (eqb x.house house) (eqb x.name name) is in
               rw (← eqb-true x.house house same.0, ← eqb-true x.name name same.1) first));
@@ -79,9 +79,9 @@ module _ (es : List Entry) (cs : List Certificate) (so : Indexes es cs) where
         }
 
   -- one that is taken back still states its name
-  pub indexes-revoked : (i : ℕ) → Indexes es (revoke_at i cs)
-  indexes-revoked i = record {
+  pub indexes_revoked : (i : ℕ) → Indexes es (revoke_at i cs)
+  indexes_revoked i = record {
     rising = so.rising;
-    agrees = λ house name. rw (length-revoked i cs, rowOf-revoked i cs house name) (so.agrees house name);
-    numbers = rw (length-revoked i cs) so.numbers;
+    agrees = λ house name. rw (length_revoked i cs, row_of_revoked i cs house name) (so.agrees house name);
+    numbers = rw (length_revoked i cs) so.numbers;
   }

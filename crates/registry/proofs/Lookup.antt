@@ -1,6 +1,6 @@
 -- The row that entries have for a house's name. Assumes nothing.
 use Rattle.std.proofs.Common.{◌≡◌, ℕ, zero, suc, ◌+◌, ◌<◌, true, false, cond, ltb, List, [], ◌∷◌, length, get_or, drop, refl, ◌∙◌, arith}
-use Rattle.registry.proofs.Order.{before-other}
+use Rattle.registry.proofs.Order.{before_other}
 use Rattle.registry.specs.Index.{is_of, Place, row_in}
 use Rattle.registry.specs.declared.Entry.{Entry}
 use Rattle.std.proofs.lemmas.List.{drop_all, drop_more}
@@ -28,7 +28,7 @@ module _ (house name none : ℕ) where
       row_in es house name none ≡ x.row
   unfolding row_in
   found es place x at within is same =
-      past es place (λ k d low less. before-other (get_or es k d) house name (at.front k d low less))
+      past es place (λ k d low less. before_other (get_or es k d) house name (at.front k d low less))
       ∙ rw (drop_more es place x within, ← is, same)
 
 module _ (house name n : ℕ) where
@@ -43,23 +43,23 @@ module _ (house name n : ℕ) where
       absent es (behind (λ f. f.row < n) e es (length es) small) rest k d (omega arith) (omega arith)
 
   -- with a certificate more
-  pub rowIn-more : (es : List Entry) → AllWithin (λ e. e.row < n) es 0 (length es) →
+  pub row_in_more : (es : List Entry) → AllWithin (λ e. e.row < n) es 0 (length es) →
       row_in es house name (n + 1) ≡ cond (ltb (row_in es house name n) n) (row_in es house name n) (n + 1)
   unfolding row_in
-  rowIn-more [] small = grind (arith, nat_tests)
-  rowIn-more (e ∷ es) small =
+  row_in_more [] small = grind (arith, nat_tests)
+  row_in_more (e ∷ es) small =
       let less = small 0 e (omega arith) (omega arith) in
-      let rest = rowIn-more es (behind (λ f. f.row < n) e es (length es) small) in
+      let rest = row_in_more es (behind (λ f. f.row < n) e es (length es) small) in
       grind (arith, nat_tests)
 
 -- with an entry more, of a new name
-pub rowIn-inserted : (es : List Entry) (place : ℕ) (x : Entry) (house name none : ℕ) → AllWithin (λ e. is_of e x.house x.name ≡ false) es 0 (length es) →
+pub row_in_inserted : (es : List Entry) (place : ℕ) (x : Entry) (house name none : ℕ) → AllWithin (λ e. is_of e x.house x.name ≡ false) es 0 (length es) →
     row_in (insert es place x) house name none ≡ cond (is_of x house name) x.row (row_in es house name none)
 unfolding row_in
-rowIn-inserted [] zero x house name none new = refl
-rowIn-inserted [] (suc place) x house name none new = refl
-rowIn-inserted (e ∷ es) zero x house name none new = refl
-rowIn-inserted (e ∷ es) (suc place) x house name none new =
+row_in_inserted [] zero x house name none new = refl
+row_in_inserted [] (suc place) x house name none new = refl
+row_in_inserted (e ∷ es) zero x house name none new = refl
+row_in_inserted (e ∷ es) (suc place) x house name none new =
     let other = new 0 e (omega arith) (omega arith) in
-    let rest = rowIn-inserted es place x house name none (behind (λ f. is_of f x.house x.name ≡ false) e es (length es) new) in
+    let rest = row_in_inserted es place x house name none (behind (λ f. is_of f x.house x.name ≡ false) e es (length es) new) in
     grind (arith, nat_tests)

@@ -8,44 +8,44 @@ use Rattle.std.proofs.lemmas.Bool.{cases_order}
 use Rattle.std.proofs.lemmas.Bool.Decides.{nat_tests}
 use Rattle.std.specs.List.{insert, HoldsAt, AllWithin}
 
-pub before-other : (e : Entry) (house name : ℕ) → before e house name ≡ true → is_of e house name ≡ false
-before-other e house name stands = grind (arith, nat_tests)
+pub before_other : (e : Entry) (house name : ℕ) → before e house name ≡ true → is_of e house name ≡ false
+before_other e house name stands = grind (arith, nat_tests)
 
 -- what stands neither before a name nor at it stands behind it
-behind-other : (e x : Entry) → before e x.house x.name ≡ false → is_of e x.house x.name ≡ false → before x e.house e.name ≡ true
-behind-other e x not other = grind (arith, nat_tests)
+behind_other : (e x : Entry) → before e x.house x.name ≡ false → is_of e x.house x.name ≡ false → before x e.house e.name ≡ true
+behind_other e x not other = grind (arith, nat_tests)
 
 module _ (e f : Entry) (house name : ℕ) (less : before e f.house f.name ≡ true) where
-  before-trans : before f house name ≡ true → before e house name ≡ true
-  before-trans stands = grind (arith, nat_tests)
+  before_trans : before f house name ≡ true → before e house name ≡ true
+  before_trans stands = grind (arith, nat_tests)
 
-  not-before : before e house name ≡ false → before f house name ≡ false
-  not-before not = grind (arith, nat_tests)
+  not_before : before e house name ≡ false → before f house name ≡ false
+  not_before not = grind (arith, nat_tests)
 
   not_at : before e house name ≡ false → is_of f house name ≡ false
   not_at not = grind (arith, nat_tests)
 
 module _ (es : List Entry) (up : Rising es) where
-  far-by : (i n : ℕ) (d : Entry) → i + suc n < length es → before (get_or es i d) (get_or es (i + suc n) d).house (get_or es (i + suc n) d).name ≡ true
-  far-by i zero d within = up i d within
-  far-by i (suc n) d within =
+  far_by : (i n : ℕ) (d : Entry) → i + suc n < length es → before (get_or es i d) (get_or es (i + suc n) d).house (get_or es (i + suc n) d).name ≡ true
+  far_by i zero d within = up i d within
+  far_by i (suc n) d within =
       let next : i + suc n + 1 ≡ i + suc (suc n) = omega arith in
-      before-trans (get_or es i d) (get_or es (i + suc n) d) _ _ (far-by i n d (omega arith)) (rw next at (up (i + suc n) d (omega arith)))
+      before_trans (get_or es i d) (get_or es (i + suc n) d) _ _ (far_by i n d (omega arith)) (rw next at (up (i + suc n) d (omega arith)))
 
   -- each entry stands before all behind it
   far : (i j : ℕ) (d : Entry) → i < j → j < length es → before (get_or es i d) (get_or es j d).house (get_or es j d).name ≡ true
   far i j d less within =
       let same : i + suc (j - i - 1) ≡ j = omega arith in
-      rw same at (far-by i (j - i - 1) d (omega arith))
+      rw same at (far_by i (j - i - 1) d (omega arith))
 
   module _ (house name middle : ℕ) (x : Entry) (within : middle < length es) (is : x ≡ get_or es middle x) where
     -- if one entry stands before a name, so do those in front of it
-    pub front-to : before x house name ≡ true → AllWithin (λ e. before e house name ≡ true) es 0 (middle + 1)
-    front-to stands k d low less =
+    pub front_to : before x house name ≡ true → AllWithin (λ e. before e house name ≡ true) es 0 (middle + 1)
+    front_to stands k d low less =
         let here = at_read es (λ e. before e house name ≡ true) middle x within is stands d in
         elim (cases_order k middle) [
           | inl same ↦ rw same here
-          | inr (inl front) ↦ before-trans (get_or es k d) (get_or es middle d) house name (far k middle d front within) here
+          | inr (inl front) ↦ before_trans (get_or es k d) (get_or es middle d) house name (far k middle d front within) here
           | inr (inr behind) ↦ let none : ⊥ = omega arith in absurd none
         ]
 
@@ -56,7 +56,7 @@ module _ (es : List Entry) (up : Rising es) where
         elim (cases_order k middle) [
           | inl same ↦ rw same here
           | inr (inl front) ↦ let none : ⊥ = omega arith in absurd none
-          | inr (inr behind) ↦ not-before (get_or es middle d) (get_or es k d) house name (far middle k d behind below) here
+          | inr (inr behind) ↦ not_before (get_or es middle d) (get_or es k d) house name (far middle k d behind below) here
         ]
 
   -- a name's entry stands at its place or nowhere
@@ -64,19 +64,19 @@ module _ (es : List Entry) (up : Rising es) where
       AllWithin (λ e. is_of e house name ≡ false) es 0 (length es)
   nowhere house name place at other k d low within = elim (cases_order k place) [
     | inl same ↦ rw same (other (rw same at within) d)
-    | inr (inl front) ↦ before-other (get_or es k d) house name (at.front k d low front)
+    | inr (inl front) ↦ before_other (get_or es k d) house name (at.front k d low front)
     | inr (inr behind) ↦ not_at (get_or es place d) (get_or es k d) house name (far place k d behind within) (at.rest place d (omega arith) (omega arith))
   ]
 
   -- an entry more, of a new name and at its place
-  pub rising-inserted : (place : ℕ) (x : Entry) → Place es x.house x.name place → AllWithin (λ e. is_of e x.house x.name ≡ false) es 0 (length es) →
+  pub rising_inserted : (place : ℕ) (x : Entry) → Place es x.house x.name place → AllWithin (λ e. is_of e x.house x.name ≡ false) es 0 (length es) →
       Rising (insert es place x)
-  rising-inserted place x at new k d within =
+  rising_inserted place x at new k d within =
       let long = length-insert es place x at.within in
       elim (cases_order k place) [
         | inl same ↦
             rw (same, get_or-insert_at es place x d at.within, get_or-insert_above es place x d place (omega arith) at.within)
-            (behind-other (get_or es place d) x (at.rest place d (omega arith) (omega arith)) (new place d (omega arith) (omega arith)))
+            (behind_other (get_or es place d) x (at.rest place d (omega arith) (omega arith)) (new place d (omega arith) (omega arith)))
         | inr (inl front) ↦
             rw (get_or-insert_below es place x d k front at.within)
             (elim (cases_order (k + 1) place) [

@@ -9,15 +9,15 @@ use Rattle.sheets.specs.Sheets.{Line}
 
 module _ (marks : List Bool) (lines : List Line) where
   -- the bytes of the marked lines from a number on
-  pub bytes-more : (i : ℕ) → i < length lines → bytes_of_marked (drop i marks) (drop i lines) ≡ bytes_at marks lines i ++ bytes_of_marked (drop (i + 1) marks) (drop (i + 1) lines)
-  bytes-more i below = ap bytes_of_sheet (picked_more marks lines i _ below) ∙ by-mark (get_or marks i false)
+  pub bytes_more : (i : ℕ) → i < length lines → bytes_of_marked (drop i marks) (drop i lines) ≡ bytes_at marks lines i ++ bytes_of_marked (drop (i + 1) marks) (drop (i + 1) lines)
+  bytes_more i below = ap bytes_of_sheet (picked_more marks lines i _ below) ∙ by_mark (get_or marks i false)
     where
       behind : List Line
       behind = picked (drop (i + 1) marks) (drop (i + 1) lines)
 
-      by-mark : (b : Bool) → bytes_of_sheet (cond b (line_at lines i ∷ behind) behind) ≡ cond b (line_bytes (line_at lines i)) [] ++ bytes_of_sheet behind
-      by-mark true = refl
-      by-mark false = refl
+      by_mark : (b : Bool) → bytes_of_sheet (cond b (line_at lines i ∷ behind) behind) ≡ cond b (line_bytes (line_at lines i)) [] ++ bytes_of_sheet behind
+      by_mark true = refl
+      by_mark false = refl
 
-  pub bytes-all : (i : ℕ) → length lines ≤ i → bytes_of_marked (drop i marks) (drop i lines) ≡ []
-  bytes-all i past = ap bytes_of_sheet (picked_all marks lines i past)
+  pub bytes_all : (i : ℕ) → length lines ≤ i → bytes_of_marked (drop i marks) (drop i lines) ≡ []
+  bytes_all i past = ap bytes_of_sheet (picked_all marks lines i past)

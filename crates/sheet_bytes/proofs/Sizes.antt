@@ -4,7 +4,7 @@ use Rattle.certificates.specs.declared.Certificate.{Certificate}
 use Rattle.registry.specs.Numbered.{never, certificate_at}
 use Rattle.keeping.proofs.Picking.{picked_more, picked_all}
 use Rattle.keeping.specs.Marks.{picked}
-use Rattle.sheet_bytes.proofs.Parts.{bytes-more, bytes-all}
+use Rattle.sheet_bytes.proofs.Parts.{bytes_more, bytes_all}
 use Rattle.sheet_bytes.specs.Writing.{bytes_of_marked, bytes_at}
 use Rattle.sheets.specs.Sheets.{Line}
 use Rattle.sheets.specs.Bytes.{line_bytes}
@@ -21,13 +21,13 @@ pub two_bytes : (n : ℕ) → length (bytes 2 n) ≡ 2
 unfolding bytes
 two_bytes n = refl
 
-pub length-u16s : (numbers : List ℕ) → length (flat_map (bytes 2) numbers) ≡ 2 * length numbers
-length-u16s [] = refl
-length-u16s (n ∷ numbers) = omega (arith, length-append (bytes 2 n) (flat_map (bytes 2) numbers), two_bytes n, length-u16s numbers)
+pub length_u16s : (numbers : List ℕ) → length (flat_map (bytes 2) numbers) ≡ 2 * length numbers
+length_u16s [] = refl
+length_u16s (n ∷ numbers) = omega (arith, length-append (bytes 2 n) (flat_map (bytes 2) numbers), two_bytes n, length_u16s numbers)
 
 -- a front is no longer than it was asked for
-pub front-few : (count most : ℕ) (numbers : List ℕ) → count ≤ most → length (take (count - 0) numbers) ≤ most
-front-few count most numbers few = omega (arith, length-take (count - 0) numbers, min-le_left (count - 0) (length numbers))
+pub front_few : (count most : ℕ) (numbers : List ℕ) → count ≤ most → length (take (count - 0) numbers) ≤ most
+front_few count most numbers few = omega (arith, length-take (count - 0) numbers, min-le_left (count - 0) (length numbers))
 
 module _ (cs : List Certificate) where
   -- a certificate that is not there has no names
@@ -35,24 +35,24 @@ module _ (cs : List Certificate) where
   no_steps number past = ap (λ (c : Certificate). c.subject.count) (sym (get_or_past cs number never past))
 
   -- as many of the steps count as the subject has names
-  pub front-steps : (f : Found) (count : ℕ) → count ≡ (certificate_at cs f.certificate).subject.count → take (count - 0) f.steps.numbers ≡ (line_of cs f).houses
-  front-steps f count is = ap (λ n. take n f.steps.numbers) (sub-zero count ∙ is)
+  pub front_steps : (f : Found) (count : ℕ) → count ≡ (certificate_at cs f.certificate).subject.count → take (count - 0) f.steps.numbers ≡ (line_of cs f).houses
+  front_steps f count is = ap (λ n. take n f.steps.numbers) (sub-zero count ∙ is)
 
   -- a line's bytes, where these are its steps
-  pub line-length : (f : Found) (steps : List ℕ) → steps ≡ (line_of cs f).houses → 2 + 2 * length steps ≡ length (line_bytes (line_of cs f))
-  line-length f steps is =
+  pub line_length : (f : Found) (steps : List ℕ) → steps ≡ (line_of cs f).houses → 2 + 2 * length steps ≡ length (line_bytes (line_of cs f))
+  line_length f steps is =
       let houses = (line_of cs f).houses in
-      omega (arith, ap length is, length-append (bytes 2 f.certificate) (flat_map (bytes 2) houses), two_bytes f.certificate, length-u16s houses)
+      omega (arith, ap length is, length-append (bytes 2 f.certificate) (flat_map (bytes 2) houses), two_bytes f.certificate, length_u16s houses)
 
   -- the line at a place that is marked
-  pub bytes-marked : (found : List Found) (marks : List Bool) (i : ℕ) (d : Found) → i < length found → true ≡ get_or marks i false →
+  pub bytes_marked : (found : List Found) (marks : List Bool) (i : ℕ) (d : Found) → i < length found → true ≡ get_or marks i false →
       line_bytes (line_of cs (get_or found i d)) ≡ bytes_at marks (lines_found cs found) i
-  bytes-marked found marks i d below marked =
+  bytes_marked found marks i d below marked =
       ap line_bytes (sym (get_or-map (line_of cs) found i d _ below)) ∙ sym (cond-true (get_or marks i false) _ [] (sym marked))
 
-  pub room-marked : (found : List Found) (marks : List Bool) (i : ℕ) (d : Found) → i < length found → true ≡ get_or marks i false → (at room : ℕ) →
+  pub room_marked : (found : List Found) (marks : List Bool) (i : ℕ) (d : Found) → i < length found → true ≡ get_or marks i false → (at room : ℕ) →
       at + length (bytes_at marks (lines_found cs found) i) ≤ room → at + length (line_bytes (line_of cs (get_or found i d))) ≤ room
-  room-marked found marks i d below marked at room fits = omega (arith, ap length (bytes-marked found marks i d below marked))
+  room_marked found marks i d below marked at room fits = omega (arith, ap length (bytes_marked found marks i d below marked))
 
 -- The bytes of the lines in front of a number are counted: with those of the others they make all.
 pub record Counted (marks : List Bool) (lines : List Line) (i count : ℕ) : Type 0 where
@@ -63,14 +63,14 @@ module _ (marks : List Bool) (lines : List Line) where
   pub counted_none : Counted marks lines 0 0
   counted_none = record { all = omega arith; few = omega arith }
 
-  pub counted-more : (i count more : ℕ) → i < length lines → Counted marks lines i count → more ≡ length (bytes_at marks lines i) → more ≤ 14 → Counted marks lines (i + 1) (count + more)
-  counted-more i count more below counted is small = record {
-    all = omega (arith, counted.all, ap length (bytes-more marks lines i below), length-append (bytes_at marks lines i) (bytes_of_marked (drop (i + 1) marks) (drop (i + 1) lines)));
+  pub counted_more : (i count more : ℕ) → i < length lines → Counted marks lines i count → more ≡ length (bytes_at marks lines i) → more ≤ 14 → Counted marks lines (i + 1) (count + more)
+  counted_more i count more below counted is small = record {
+    all = omega (arith, counted.all, ap length (bytes_more marks lines i below), length-append (bytes_at marks lines i) (bytes_of_marked (drop (i + 1) marks) (drop (i + 1) lines)));
     few = omega (arith, counted.few);
   }
 
-  pub counted-all : (i count : ℕ) → length lines ≤ i → Counted marks lines i count → count ≡ length (bytes_of_marked marks lines)
-  counted-all i count past counted = omega (arith, counted.all, ap length (bytes-all marks lines i past))
+  pub counted_all : (i count : ℕ) → length lines ≤ i → Counted marks lines i count → count ≡ length (bytes_of_marked marks lines)
+  counted_all i count past counted = omega (arith, counted.all, ap length (bytes_all marks lines i past))
 
 -- stands for a line where there is none
 abbrev nowhere : Line
@@ -82,29 +82,29 @@ pub record Tallied (marks : List Bool) (i count : ℕ) : Type 0 where
   pub few : count ≤ i
 
 module _ (marks : List Bool) where
-  pub tallied-none : Tallied marks 0 0
-  tallied-none = record { all = λ lines many. omega arith; few = omega arith }
+  pub tallied_none : Tallied marks 0 0
+  tallied_none = record { all = λ lines many. omega arith; few = omega arith }
 
-  pub tallied-more : (i count more : ℕ) → i < length marks → more ≡ cond (get_or marks i false) 1 0 → Tallied marks i count → Tallied marks (i + 1) (count + more)
-  tallied-more i count more below is tallied = record {
+  pub tallied_more : (i count more : ℕ) → i < length marks → more ≡ cond (get_or marks i false) 1 0 → Tallied marks i count → Tallied marks (i + 1) (count + more)
+  tallied_more i count more below is tallied = record {
     all = λ lines many.
         let behind = picked (drop (i + 1) marks) (drop (i + 1) lines) in
         omega (
           arith,
           tallied.all lines many,
           ap length (picked_more marks lines i nowhere (omega arith)),
-          by-mark (get_or marks i false) (get_or lines i nowhere) behind,
+          by_mark (get_or marks i false) (get_or lines i nowhere) behind,
         );
     few = omega (arith, tallied.few, at_most_one (get_or marks i false));
   }
     where
-      by-mark : (b : Bool) (l : Line) (behind : List Line) → length (cond b (l ∷ behind) behind) ≡ cond b 1 0 + length behind
-      by-mark true l behind = omega arith
-      by-mark false l behind = omega arith
+      by_mark : (b : Bool) (l : Line) (behind : List Line) → length (cond b (l ∷ behind) behind) ≡ cond b 1 0 + length behind
+      by_mark true l behind = omega arith
+      by_mark false l behind = omega arith
 
       at_most_one : (b : Bool) → cond b 1 0 ≤ 1
       at_most_one true = omega arith
       at_most_one false = omega arith
 
-  pub tallied-all : (i count : ℕ) → length marks ≤ i → Tallied marks i count → (lines : List Line) → length lines ≡ length marks → count ≡ length (picked marks lines)
-  tallied-all i count past tallied lines many = omega (arith, tallied.all lines many, ap length (picked_all marks lines i (omega arith)))
+  pub tallied_all : (i count : ℕ) → length marks ≤ i → Tallied marks i count → (lines : List Line) → length lines ≡ length marks → count ≡ length (picked marks lines)
+  tallied_all i count past tallied lines many = omega (arith, tallied.all lines many, ap length (picked_all marks lines i (omega arith)))

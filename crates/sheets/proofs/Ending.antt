@@ -3,8 +3,8 @@ use Rattle.std.proofs.Common.{◌≡◌, ℕ, zero, suc, ◌≤◌, ◌&&◌, Li
 use Rattle.certificates.specs.declared.Certificate.{Certificate}
 use Rattle.sheets.proofs.Closed.{Closed}
 use Rattle.sheets.proofs.Lines.{Good}
-use Rattle.sheets.proofs.Next.{next-line}
-use Rattle.sheets.proofs.Slots.{Room, line-room}
+use Rattle.sheets.proofs.Next.{next_line}
+use Rattle.sheets.proofs.Slots.{Room, line_room}
 use Rattle.sheets.specs.Facts.{Fact}
 use Rattle.sheets.specs.Laws.{Covers}
 use Rattle.sheets.specs.Sheets.{Line, shows, entitled, holds_from}
@@ -24,10 +24,10 @@ module _ (cs : List Certificate) (day right : ℕ) where
   unfolding holds_from
   no_lines facts most closed = record { lines = []; end = facts; kept = λ f i. i; closed = closed; holds_as = λ house. refl; few = omega arith }
 
-  line-more : (facts : List Fact) (most : ℕ) (l : Line) → Good cs day right facts l →
+  line_more : (facts : List Fact) (most : ℕ) (l : Line) → Good cs day right facts l →
       Ending cs day right (shows cs l ∷ facts) most → Ending cs day right facts (suc most)
   unfolding holds_from
-  line-more facts most l g rest = record {
+  line_more facts most l g rest = record {
     lines = l ∷ rest.lines;
     end = rest.end;
     kept = λ f i. rest.kept f (Memᴰ.tail i);
@@ -39,13 +39,13 @@ module _ (cs : List Certificate) (day right : ℕ) where
   -- while there is room, either the facts are closed or a new line follows
   pub ending : (houses : List ℕ) → Covers houses cs → (most : ℕ) (facts : List Fact) → Room cs houses facts most → Ending cs day right facts most
   ending houses covers zero facts room = ⊎_elim
-      (λ (l, g, new). let (less, is, after) = line-room cs day right facts houses zero covers room l g new in let none : ⊥ = omega arith in absurd none)
+      (λ (l, g, new). let (less, is, after) = line_room cs day right facts houses zero covers room l g new in let none : ⊥ = omega arith in absurd none)
       (no_lines facts zero)
-      (next-line cs day right facts houses covers room.within)
+      (next_line cs day right facts houses covers room.within)
   ending houses covers (suc most) facts room = ⊎_elim
       (λ (l, g, new).
-      let (less, is, after) = line-room cs day right facts houses (suc most) covers room l g new in
+      let (less, is, after) = line_room cs day right facts houses (suc most) covers room l g new in
       let same : less ≡ most = omega arith in
-      line-more facts most l g (ending houses covers most (shows cs l ∷ facts) (rw same at after)))
+      line_more facts most l g (ending houses covers most (shows cs l ∷ facts) (rw same at after)))
       (no_lines facts (suc most))
-      (next-line cs day right facts houses covers room.within)
+      (next_line cs day right facts houses covers room.within)

@@ -3,7 +3,7 @@ use Rattle.std.proofs.Common.{◌≡◌, ℕ, ◌<◌, ◌≤◌, List, length, 
 use Rattle.certificates.specs.Certificates.{names_of, WellFormed}
 use Rattle.certificates.specs.declared.Certificate.{Certificate}
 use Rattle.sheets.proofs.Shown.{number_of}
-use Rattle.sheets.proofs.Slots.{subjectHouses}
+use Rattle.sheets.proofs.Slots.{subject_houses}
 use Rattle.sheets.specs.Sheets.{never, certificate_at}
 use Rattle.std.proofs.ByRecursion.{All-get_or}
 use Rattle.std.proofs.lemmas.List.{length-take-le}
@@ -12,18 +12,18 @@ use mathlib.Core.List.Memᴰ
 use mathlib.Core.List.{Memᴰ}
 
 module _ (cs : List Certificate) (formed : AllByRecursion WellFormed cs) where
-  formed-at : (i : ℕ) → i < length cs → WellFormed (certificate_at cs i)
-  formed-at i below = All-get_or WellFormed cs i never below formed
+  formed_at : (i : ℕ) → i < length cs → WellFormed (certificate_at cs i)
+  formed_at i below = All-get_or WellFormed cs i never below formed
 
   pub names_at : (i : ℕ) → i < length cs → length (names_of (certificate_at cs i).subject) ≡ (certificate_at cs i).subject.count
   names_at i below =
       let c = certificate_at cs i in
-      let w = formed-at i below in
+      let w = formed_at i below in
       length-take-le c.subject.count c.subject.names (omega arith)
 
-  pub subject-known : (h : ℕ) → Memᴰ h (subjectHouses cs) → h ≤ 1023
-  subject-known h i =
+  pub subject_known : (h : ℕ) → Memᴰ h (subject_houses cs) → h ≤ 1023
+  subject_known h i =
       let (c, j, is) = Memᴰ.of_map (λ (c : Certificate). c.subject.house) cs i in
       let (n, below, same) = number_of j in
-      let w = rw same at (formed-at n below) in
+      let w = rw same at (formed_at n below) in
       omega arith

@@ -7,7 +7,7 @@ use Rattle.certificates.specs.declared.Certificate.{Certificate}
 use Rattle.certificates.specs.declared.Statement.{Statement}
 use Rattle.certificates.specs.declared.Statement.TheVariants.{Name, Rights}
 use Rattle.facts.specs.Table.{bit_at}
-use Rattle.sheets.proofs.Remembering.{name-shown, right-shown}
+use Rattle.sheets.proofs.Remembering.{name_shown, right_shown}
 use Rattle.sheets.proofs.Shown.{impossible}
 use Rattle.sheets.specs.Checking.{known_houses, unshown, stepped, walked, allowed, judged}
 use Rattle.sheets.specs.Facts.{Fact, NameMeans, shown}
@@ -26,27 +26,27 @@ abbrev told : ℕ → ℕ → Option ℕ → Result ℕ ℕ
 told i last None = Ok last
 told i last (Some k) = Err (i + k)
 
-told-next : (i last : ℕ) (first : Option ℕ) → told (suc i) last first ≡ told i last (option_map suc first)
-told-next i last None = refl
-told-next i last (Some k) = ap (λ (n : ℕ). Err n) (omega arith)
+told_next : (i last : ℕ) (first : Option ℕ) → told (suc i) last first ≡ told i last (option_map suc first)
+told_next i last None = refl
+told_next i last (Some k) = ap (λ (n : ℕ). Err n) (omega arith)
 
 module _ (test : ℕ → ℕ → ℕ → Bool) (facts : List Fact) (same : (k n m : ℕ) → m < 1024 → shown (NameMeans k n m) facts ≡ test k n m) where
   -- a walk by a test that agrees with the facts
-  walk-told : (i house : ℕ) (names houses : List ℕ) → known_houses houses ≡ true → length names ≡ length houses →
+  walk_told : (i house : ℕ) (names houses : List ℕ) → known_houses houses ≡ true → length names ≡ length houses →
       walk_by test i house names houses ≡ told i (reached house houses) (unshown facts house names houses)
   unfolding walk_by unshown reached known_houses
-  walk-told i house [] [] known many = refl
-  walk-told i house [] (h ∷ houses) known many = impossible (omega arith)
-  walk-told i house (n ∷ names) [] known many = impossible (omega arith)
-  walk-told i house (n ∷ names) (h ∷ houses) known many =
+  walk_told i house [] [] known many = refl
+  walk_told i house [] (h ∷ houses) known many = impossible (omega arith)
+  walk_told i house (n ∷ names) [] known many = impossible (omega arith)
+  walk_told i house (n ∷ names) (h ∷ houses) known many =
       let (small, rest) = and_parts (leb h 1023) (known_houses houses) known in
       rw (same house n h (omega (arith, leb-true h 1023 small)))
-      (by-step (test house n h) (walk-told (suc i) h names houses rest (omega arith)))
+      (by_step (test house n h) (walk_told (suc i) h names houses rest (omega arith)))
     where
-      by-step : (b : Bool) → walk_by test (suc i) h names houses ≡ told (suc i) (reached h houses) (unshown facts h names houses) →
+      by_step : (b : Bool) → walk_by test (suc i) h names houses ≡ told (suc i) (reached h houses) (unshown facts h names houses) →
           cond b (walk_by test (suc i) h names houses) (Err i) ≡ told i (reached h houses) (cond b (option_map suc (unshown facts h names houses)) (Some 0))
-      by-step true behind = behind ∙ told-next i (reached h houses) (unshown facts h names houses)
-      by-step false behind = ap (λ (n : ℕ). Err n) (sym (add-zero i))
+      by_step true behind = behind ∙ told_next i (reached h houses) (unshown facts h names houses)
+      by_step false behind = ap (λ (n : ℕ). Err n) (sym (add-zero i))
 
 -- what a line shows of the last house
 abbrev pub showing : Certificate → Result ℕ Fault → Result Fact Fault
@@ -61,21 +61,21 @@ module _ {cs : List Certificate} {facts : List Fact} {names rights : List ℕ} (
   abbrev test : ℕ → ℕ → ℕ → Bool
   test = remembered cs names
 
-  steps-judged : (first : Option ℕ) → stepped line facts c (houses_of l) first ≡ showing c (step_fault line (told 0 (reached c.subject.house (houses_of l)) first))
-  steps-judged None = refl
-  steps-judged (Some k) = ap (λ (n : ℕ). Err (StepNotShown line n)) (sym (zero-add k))
+  steps_judged : (first : Option ℕ) → stepped line facts c (houses_of l) first ≡ showing c (step_fault line (told 0 (reached c.subject.house (houses_of l)) first))
+  steps_judged None = refl
+  steps_judged (Some k) = ap (λ (n : ℕ). Err (StepNotShown line n)) (sym (zero-add k))
 
-  walk-judged : known_houses (houses_of l) ≡ true → walked line facts c (houses_of l) ≡ showing c (step_fault line (walked_by test l))
-  walk-judged known =
-      steps-judged (unshown facts c.subject.house (names_of c.subject) (houses_of l))
+  walk_judged : known_houses (houses_of l) ≡ true → walked line facts c (houses_of l) ≡ showing c (step_fault line (walked_by test l))
+  walk_judged known =
+      steps_judged (unshown facts c.subject.house (names_of c.subject) (houses_of l))
       ∙ ap (λ w. showing c (step_fault line w))
-      (sym (walk-told test facts (λ k n m small. name-shown r k n m small) 0 c.subject.house (names_of c.subject) (houses_of l) known many))
+      (sym (walk_told test facts (λ k n m small. name_shown r k n m small) 0 c.subject.house (names_of c.subject) (houses_of l) known many))
 
-  permit-judged : known_houses (houses_of l) ≡ true → (s : Statement) →
+  permit_judged : known_houses (houses_of l) ≡ true → (s : Statement) →
       allowed line facts c (houses_of l) right s ≡ showing c (afterwards (permits right (bit_at rights 0 c.issuer) line s) (step_fault line (walked_by test l)))
-  permit-judged known (Name name) = walk-judged known
-  permit-judged known (Rights set d) =
-      rw (right-shown r true c.issuer (ranged c sound).issuer_known, walk-judged known) (by_tests (member right set) (bit_at rights 0 c.issuer))
+  permit_judged known (Name name) = walk_judged known
+  permit_judged known (Rights set d) =
+      rw (right_shown r true c.issuer (ranged c sound).issuer_known, walk_judged known) (by_tests (member right set) (bit_at rights 0 c.issuer))
     where
       by_tests : (given able : Bool) →
           cond given (cond able (showing c (step_fault line (walked_by test l))) (Err (IssuerNotShown line))) (Err (NotGiven line))
@@ -84,17 +84,17 @@ module _ {cs : List Certificate} {facts : List Fact} {names rights : List ℕ} (
       by_tests true false = refl
       by_tests false able = refl
 
-  pub judged-by : judged line facts c (houses_of l) day right ≡ showing c (judged_by test (bit_at rights 0 c.issuer) line day right l)
-  judged-by = by-known (known_houses (houses_of l)) refl
+  pub judged_by_lem : judged line facts c (houses_of l) day right ≡ showing c (judged_by test (bit_at rights 0 c.issuer) line day right l)
+  judged_by_lem = by_known (known_houses (houses_of l)) refl
     where
-      by-valid : (v : Bool) → known_houses (houses_of l) ≡ true →
+      by_valid : (v : Bool) → known_houses (houses_of l) ≡ true →
           cond v (allowed line facts c (houses_of l) right c.statement) (Err (NotValid line))
           ≡ showing c (cond v (afterwards (permits right (bit_at rights 0 c.issuer) line c.statement) (step_fault line (walked_by test l))) (Err (NotValid line)))
-      by-valid true known = permit-judged known c.statement
-      by-valid false known = refl
+      by_valid true known = permit_judged known c.statement
+      by_valid false known = refl
 
-      by-known : (b : Bool) → known_houses (houses_of l) ≡ b →
+      by_known : (b : Bool) → known_houses (houses_of l) ≡ b →
           cond b (cond (valid day c) (allowed line facts c (houses_of l) right c.statement) (Err (NotValid line))) (Err (LineOutOfRange line))
           ≡ showing c (cond b (cond (valid day c) (afterwards (permits right (bit_at rights 0 c.issuer) line c.statement) (step_fault line (walked_by test l))) (Err (NotValid line))) (Err (LineOutOfRange line)))
-      by-known true known = by-valid (valid day c) known
-      by-known false known = refl
+      by_known true known = by_valid (valid day c) known
+      by_known false known = refl

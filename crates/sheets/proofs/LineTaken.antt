@@ -6,17 +6,17 @@ use Rattle.sheets.specs.Checking.{judged, followed, housed, numbered, line_check
 use Rattle.sheets.specs.Facts.{Fact}
 use Rattle.sheets.specs.Sheets.{certificate_at}
 use Rattle.std.proofs.lemmas.Bool.{cond-true, lt-ltb}
-use Rattle.wire.proofs.Formed.{places-front}
+use Rattle.wire.proofs.Formed.{places_front}
 use Rattle.wire.specs.Numbers.{Taken, take_number, take_numbers, places, keep_six, and_then}
 use Rattle.wire.specs.declared.numbers.Six.{Six}
 
 -- as many numbers are taken as were asked for
-taken-many : (k : ℕ) (s numbers rest : List ℕ) → take_numbers k s ≡ Some (numbers, rest) → length numbers ≡ k
+taken_many : (k : ℕ) (s numbers rest : List ℕ) → take_numbers k s ≡ Some (numbers, rest) → length numbers ≡ k
 unfolding take_numbers
-taken-many zero s numbers rest e =
+taken_many zero s numbers rest e =
     let same : ◌≡◌ {A = List ℕ × List ℕ} ([], s) (numbers, rest) = cc in
     sym (ap (λ (p : List ℕ × List ℕ). length p.0) same)
-taken-many (suc k) s numbers rest e = first (take_number 2 s) (λ r ns behind. taken-many k r ns behind) e
+taken_many (suc k) s numbers rest e = first (take_number 2 s) (λ r ns behind. taken_many k r ns behind) e
   where
     later : (n : ℕ) (t : Taken (List ℕ)) → ((ns r : List ℕ) → t ≡ Some (ns, r) → length ns ≡ k) →
         and_then t (λ ns behind. Some (n ∷ ns, behind)) ≡ Some (numbers, rest) → length numbers ≡ suc k
@@ -46,8 +46,8 @@ module _ (cs : List Certificate) (day right line : ℕ) (facts : List Fact) (s :
       judging None taken e = impossible (cc)
       judging (Some p) taken e =
           let same : ◌≡◌ {A = Six × List ℕ} (six, rest) (record { numbers = places p.0 }, p.1) = cc in
-          let many : length p.0 ≡ c.subject.count = taken-many c.subject.count behind p.0 p.1 taken in
+          let many : length p.0 ≡ c.subject.count = taken_many c.subject.count behind p.0 p.1 taken in
           let front : take c.subject.count six.numbers ≡ p.0 =
           ap (λ (q : Six × List ℕ). take c.subject.count q.0.numbers) same
-          ∙ (ap (λ k. take k (places p.0)) (sym many) ∙ places-front p.0 (rw many few)) in
+          ∙ (ap (λ k. take k (places p.0)) (sym many) ∙ places_front p.0 (rw many few)) in
           rw (ap (λ (q : Six × List ℕ). q.1) same, front, is)

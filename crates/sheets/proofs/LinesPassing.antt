@@ -16,45 +16,45 @@ module _ (cs : List Certificate) (q : Question) (count : ℕ) (s names rights : 
     pub same : lines_checked cs q.day q.right count 0 facts₀ s ≡ lines_checked cs q.day q.right (count - line) line facts rest
 
   -- the same, whatever facts the memory held at the start
-  abbrev pub So-far : ℕ → List ℕ → List ℕ → List ℕ → Type 0
-  So-far line rest names' rights' = (facts₀ : List Fact) → Remembers cs facts₀ names rights → Progress facts₀ line rest names' rights'
+  abbrev pub SoFar : ℕ → List ℕ → List ℕ → List ℕ → Type 0
+  SoFar line rest names' rights' = (facts₀ : List Fact) → Remembers cs facts₀ names rights → Progress facts₀ line rest names' rights'
 
-  pub none-checked : So-far 0 s names rights
-  none-checked facts₀ r = record { facts = facts₀; remembers = r; same = ap (λ n. lines_checked cs q.day q.right n 0 facts₀ s) (omega arith) }
+  pub none_checked : SoFar 0 s names rights
+  none_checked facts₀ r = record { facts = facts₀; remembers = r; same = ap (λ n. lines_checked cs q.day q.right n 0 facts₀ s) (omega arith) }
 
-  module _ (line : ℕ) (rest names' rights' : List ℕ) (so : So-far line rest names' rights') (below : line < count) where
+  module _ (line : ℕ) (rest names' rights' : List ℕ) (so : SoFar line rest names' rights') (below : line < count) where
     -- the first of the lines that are left
-    first-left : (facts : List Fact) → lines_checked cs q.day q.right (count - line) line facts rest
+    first_left : (facts : List Fact) → lines_checked cs q.day q.right (count - line) line facts rest
         ≡ going facts (λ fact behind. lines_checked cs q.day q.right (count - (line + 1)) (line + 1) (fact ∷ facts) behind) (line_checked cs q.day q.right line facts rest)
     unfolding lines_checked
-    first-left facts =
+    first_left facts =
         let more : count - line ≡ suc (count - (line + 1)) = omega arith in
         rw (more, add-one line)
 
     -- a good line is one more
-    pub one-checked : (behind names'' rights'' : List ℕ) → LinePassed cs q line rest names' rights' names'' rights'' (Ok behind) → So-far (line + 1) behind names'' rights''
-    one-checked behind names'' rights'' passed facts₀ r =
+    pub one_checked : (behind names'' rights'' : List ℕ) → LinePassed cs q line rest names' rights' names'' rights'' (Ok behind) → SoFar (line + 1) behind names'' rights''
+    one_checked behind names'' rights'' passed facts₀ r =
         let before = so facts₀ r in
         let (fact, is, remembers) = passed before.facts before.remembers in
         record {
           facts = fact ∷ before.facts;
           remembers = remembers;
-          same = before.same ∙ (first-left before.facts ∙ ap (going before.facts _) is);
+          same = before.same ∙ (first_left before.facts ∙ ap (going before.facts _) is);
         }
 
     -- a faulty line is the last
-    pub fault-found : (names'' rights'' : List ℕ) (fault : Fault) → LinePassed cs q line rest names' rights' names'' rights'' (Err fault) →
+    pub fault_found : (names'' rights'' : List ℕ) (fault : Fault) → LinePassed cs q line rest names' rights' names'' rights'' (Err fault) →
         LinesPassed cs q count s names rights names'' rights'' (Err fault)
-    fault-found names'' rights'' fault passed facts₀ r =
+    fault_found names'' rights'' fault passed facts₀ r =
         let before = so facts₀ r in
         let (is, kept-names, kept-rights) = passed before.facts before.remembers in
-        let end : lines_checked cs q.day q.right count 0 facts₀ s ≡ (before.facts, Err fault) = before.same ∙ (first-left before.facts ∙ ap (going before.facts _) is) in
+        let end : lines_checked cs q.day q.right count 0 facts₀ s ≡ (before.facts, Err fault) = before.same ∙ (first_left before.facts ∙ ap (going before.facts _) is) in
         rw (end, kept-names, kept-rights) (refl, before.remembers)
 
   -- all lines are good
-  pub all-checked : (line : ℕ) (rest names' rights' : List ℕ) → So-far line rest names' rights' → count ≤ line → LinesPassed cs q count s names rights names' rights' (Ok rest)
+  pub all_checked : (line : ℕ) (rest names' rights' : List ℕ) → SoFar line rest names' rights' → count ≤ line → LinesPassed cs q count s names rights names' rights' (Ok rest)
   unfolding lines_checked
-  all-checked line rest names' rights' so past facts₀ r =
+  all_checked line rest names' rights' so past facts₀ r =
       let before = so facts₀ r in
       let none : count - line ≡ 0 = omega arith in
       let end : lines_checked cs q.day q.right count 0 facts₀ s ≡ (before.facts, Ok rest) = before.same ∙ rw none in

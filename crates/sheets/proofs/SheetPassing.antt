@@ -2,7 +2,7 @@
 use Rattle.std.proofs.Common.{◌≡◌, ℕ, ◌<◌, ◌≤◌, true, false, cond, ◌&&◌, ◌||◌, leb, List, [], ◌∷◌, length, replicate, Ok, Err, Result, sym, refl, ap, ◌∙◌, ap₂, arith}
 use Rattle.certificates.specs.declared.Certificate.{Certificate}
 use Rattle.facts.specs.Table.{with_bit}
-use Rattle.sheets.proofs.Remembering.{right-shown}
+use Rattle.sheets.proofs.Remembering.{right_shown}
 use Rattle.sheets.specs.Checking.{lines_checked, concluded}
 use Rattle.sheets.specs.Facts.{Fact}
 use Rattle.sheets.specs.Memory.{Remembers, names_table, rights_table}
@@ -14,8 +14,8 @@ use Rattle.wire.specs.declared.faults.Fault.{Fault}
 use Rattle.wire.specs.declared.faults.Fault.TheVariants.{HouseNotShown}
 
 module _ (cs : List Certificate) (q : Question) (few : length cs ≤ 1024) (ok : askable q ≡ true) where
-  owner-known : q.owner < 1024
-  owner-known =
+  owner_known : q.owner < 1024
+  owner_known =
       let (owner, rest) = and_parts (leb q.owner 1023) (leb q.house 1023 && leb q.right 63) ok in
       omega (arith, leb-true q.owner 1023 owner)
 
@@ -26,27 +26,27 @@ module _ (cs : List Certificate) (q : Question) (few : length cs ≤ 1024) (ok :
       omega (arith, leb-true q.house 1023 house)
 
   -- at the start the owner's right is remembered, and nothing else
-  pub start-remembered : (memory : List ℕ) → Wiped memory → Remembers cs (start q.owner) memory (with_bit (replicate 32 0) 0 q.owner)
+  pub start_remembered : (memory : List ℕ) → Wiped memory → Remembers cs (start q.owner) memory (with_bit (replicate 32 0) 0 q.owner)
   unfolding names_table rights_table
-  start-remembered memory wiped = record { names_are = wiped.zeros; rights_are = refl; sane = (owner-known, tt); long = wiped.long; few = few }
+  start_remembered memory wiped = record { names_are = wiped.zeros; rights_are = refl; sane = (owner_known, tt); long = wiped.long; few = few }
 
   module _ (count : ℕ) (s memory memory' rights rights' : List ℕ) (wiped : Wiped memory) (begun : rights ≡ with_bit (replicate 32 0) 0 q.owner) where
     begin : Remembers cs (start q.owner) memory rights
-    begin = rw begun (start-remembered memory wiped)
+    begin = rw begun (start_remembered memory wiped)
 
-    pub faulty-sheet : (fault : Fault) → LinesPassed cs q count s memory rights memory' rights' (Err fault) → Done cs q count s memory' (Err fault)
-    faulty-sheet fault passed =
+    pub faulty_sheet : (fault : Fault) → LinesPassed cs q count s memory rights memory' rights' (Err fault) → Done cs q count s memory' (Err fault)
+    faulty_sheet fault passed =
         let (is, remembers) = passed (start q.owner) begin in
         record { answer = sym (ap (concluded q.house (lines_checked cs q.day q.right count 0 (start q.owner) s).0) is); holds = remembers.names_are }
 
     conclusion : (facts : List Fact) → Remembers cs facts memory' rights' → (rest : List ℕ) → concluded_by (entitled_by rights' q.house) rest ≡ concluded q.house facts (Ok rest)
     conclusion facts r (b ∷ rest) = refl
     conclusion facts r [] =
-        ap (λ b. cond b (Ok tt) (Err HouseNotShown)) (sym (ap₂ (λ a b. a || b) (right-shown r true q.house house_known) (right-shown r false q.house house_known)))
+        ap (λ b. cond b (Ok tt) (Err HouseNotShown)) (sym (ap₂ (λ a b. a || b) (right_shown r true q.house house_known) (right_shown r false q.house house_known)))
 
-    pub concluded-sheet : (rest : List ℕ) (answer : Result (Unit {0}) Fault) → LinesPassed cs q count s memory rights memory' rights' (Ok rest) →
+    pub concluded_sheet : (rest : List ℕ) (answer : Result (Unit {0}) Fault) → LinesPassed cs q count s memory rights memory' rights' (Ok rest) →
         answer ≡ concluded_by (entitled_by rights' q.house) rest → Done cs q count s memory' answer
-    concluded-sheet rest answer passed is =
+    concluded_sheet rest answer passed is =
         let (read, remembers) = passed (start q.owner) begin in
         let facts = (lines_checked cs q.day q.right count 0 (start q.owner) s).0 in
         record { answer = is ∙ (conclusion facts remembers rest ∙ sym (ap (concluded q.house facts) read)); holds = remembers.names_are }

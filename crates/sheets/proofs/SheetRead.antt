@@ -3,9 +3,9 @@ use Rattle.std.proofs.Common.{◌≡◌, ℕ, zero, suc, ◌≤◌, true, List, 
 use Rattle.certificates.specs.Certificates.{WellFormed}
 use Rattle.certificates.specs.declared.Certificate.{Certificate}
 use Rattle.sheets.proofs.Judged.{passed}
-use Rattle.sheets.proofs.LineRead.{Bytes, bytes_rest, GoodLine, line_read, read-line}
+use Rattle.sheets.proofs.LineRead.{Bytes, bytes_rest, GoodLine, line_read, read_line}
 use Rattle.sheets.proofs.Lines.{first_good}
-use Rattle.sheets.proofs.Shown.{impossible, true-from-T, T_from_true}
+use Rattle.sheets.proofs.Shown.{impossible, true_from_t, T_from_true}
 use Rattle.sheets.specs.Bytes.{line_bytes, bytes_of_sheet, Writable}
 use Rattle.sheets.specs.Checking.{line_checked, going, lines_checked, concluded}
 use Rattle.sheets.specs.Facts.{Fact}
@@ -31,24 +31,24 @@ module _ (cs : List Certificate) (formed : AllByRecursion WellFormed cs) (day ri
   no_lines facts [] e = ([], refl, tt, refl, (passed (entitled house facts) (Ok tt) HouseNotShown tt e).0)
   no_lines facts (b ∷ s) e = impossible (cc)
 
-  line-more : (count : ℕ) (facts : List Fact) (s : List ℕ) (fact : Fact) (rest : List ℕ) →
+  line_more : (count : ℕ) (facts : List Fact) (s : List ℕ) (fact : Fact) (rest : List ℕ) →
       GoodLine cs day right facts s fact rest → Holding count (fact ∷ facts) rest → Holding (suc count) facts s
   unfolding holds_from
-  line-more count facts s fact rest g (lines, many, writable, is, held) =
+  line_more count facts s fact rest g (lines, many, writable, is, held) =
       let l = g.line in (
         l ∷ lines,
         ap suc many,
         (g.writable, writable),
-        g.is-bytes ∙ ap (λ t. line_bytes l ++ t) is,
+        g.is_bytes ∙ ap (λ t. line_bytes l ++ t) is,
         and_from (good day right facts (certificate_at cs l.certificate) l.houses) (holds_from cs day right (shows cs l ∷ facts) lines house)
-            g.is_good (rw g.is-fact at held),
+            g.is_good (rw g.is_fact at held),
       )
 
   -- lines that were found to hold are there
-  lines-read : (count line : ℕ) (facts : List Fact) (s : List ℕ) → Bytes s → Found house (lines_checked cs day right count line facts s) → Holding count facts s
+  lines_read : (count line : ℕ) (facts : List Fact) (s : List ℕ) → Bytes s → Found house (lines_checked cs day right count line facts s) → Holding count facts s
   unfolding lines_checked
-  lines-read zero line facts s small e = no_lines facts s e
-  lines-read (suc count) line facts s small e = go (λ fact rest. lines-read count (suc line) (fact ∷ facts) rest) (line_checked cs day right line facts s) refl e
+  lines_read zero line facts s small e = no_lines facts s e
+  lines_read (suc count) line facts s small e = go (λ fact rest. lines_read count (suc line) (fact ∷ facts) rest) (line_checked cs day right line facts s) refl e
     where
       next : Fact → List ℕ → List Fact × Result (List ℕ) Fault
       next fact rest = lines_checked cs day right count (suc line) (fact ∷ facts) rest
@@ -57,24 +57,24 @@ module _ (cs : List Certificate) (formed : AllByRecursion WellFormed cs) (day ri
           (r : Result (Fact × List ℕ) Fault) → line_checked cs day right line facts s ≡ r → Found house (going facts next r) → Holding (suc count) facts s
       go behind (Ok p) is found =
           let g = line_read cs day right line facts formed s small p is in
-          line-more count facts s p.0 p.1 g (behind p.0 p.1 (bytes_rest (line_bytes g.line) p.1 (rw g.is-bytes at small)) found)
+          line_more count facts s p.0 p.1 g (behind p.0 p.1 (bytes_rest (line_bytes g.line) p.1 (rw g.is_bytes at small)) found)
       go behind (Err fault) is found = impossible (cc)
 
   -- and lines that hold are found to
-  read-lines : length cs ≤ 1024 → (line : ℕ) (facts : List Fact) (lines : List Line) → AllByRecursion (Writable cs) lines →
+  read_lines : length cs ≤ 1024 → (line : ℕ) (facts : List Fact) (lines : List Line) → AllByRecursion (Writable cs) lines →
       holds_from cs day right facts lines house ≡ true → Found house (lines_checked cs day right (length lines) line facts (bytes_of_sheet lines))
   unfolding lines_checked holds_from
-  read-lines few line facts [] writable held = rw held
-  read-lines few line facts (l ∷ lines) writable held =
+  read_lines few line facts [] writable held = rw held
+  read_lines few line facts (l ∷ lines) writable held =
       let (g, rest) = first_good cs day right facts house l lines held in
-      rw (read-line cs day right line facts few l writable.0 g (bytes_of_sheet lines))
-      (read-lines few (suc line) (shows cs l ∷ facts) lines writable.1 rest)
+      rw (read_line cs day right line facts few l writable.0 g (bytes_of_sheet lines))
+      (read_lines few (suc line) (shows cs l ∷ facts) lines writable.1 rest)
 
-pub checks-exactly : ChecksExactly
-checks-exactly cs formed few day right owner house count s small = (
+pub checks_exactly_lem : ChecksExactly
+checks_exactly_lem cs formed few day right owner house count s small = (
   (λ found.
-      let (lines, many, writable, is, held) = lines-read cs formed day right house count 0 (start owner) s small found in
+      let (lines, many, writable, is, held) = lines_read cs formed day right house count 0 (start owner) s small found in
       (lines, many, writable, is, T_from_true (holds cs day right owner lines house) held)),
   (λ (lines, many, writable, is, t).
-      rw (← many, is) (read-lines cs formed day right house few 0 (start owner) lines writable (true-from-T (holds cs day right owner lines house) t))),
+      rw (← many, is) (read_lines cs formed day right house few 0 (start owner) lines writable (true_from_t (holds cs day right owner lines house) t))),
 )

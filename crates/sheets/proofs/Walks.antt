@@ -9,45 +9,45 @@ use Rattle.std.specs.Option.{option_map}
 use Rattle.std.specs.List.{AllByRecursion}
 
 -- where no step is missing, neither the first nor a later one is
-none-missing : (b : Bool) (later : Option ℕ) → cond b (option_map suc later) (Some 0) ≡ None → (b ≡ true) × (later ≡ None)
-none-missing true None e = (refl, refl)
-none-missing true (Some n) e = impossible (cc)
-none-missing false None e = impossible (cc)
-none-missing false (Some n) e = impossible (cc)
+none_missing : (b : Bool) (later : Option ℕ) → cond b (option_map suc later) (Some 0) ≡ None → (b ≡ true) × (later ≡ None)
+none_missing true None e = (refl, refl)
+none_missing true (Some n) e = impossible (cc)
+none_missing false None e = impossible (cc)
+none_missing false (Some n) e = impossible (cc)
 
-pub walk-shown : (facts : List Fact) (k : ℕ) (names houses : List ℕ) → walks facts k names houses ≡ true → unshown facts k names houses ≡ None
+pub walk_shown : (facts : List Fact) (k : ℕ) (names houses : List ℕ) → walks facts k names houses ≡ true → unshown facts k names houses ≡ None
 unfolding walks unshown
-walk-shown facts k [] [] e = refl
-walk-shown facts k [] (h ∷ houses) e = refl
-walk-shown facts k (n ∷ names) [] e = refl
-walk-shown facts k (n ∷ names) (h ∷ houses) e =
+walk_shown facts k [] [] e = refl
+walk_shown facts k [] (h ∷ houses) e = refl
+walk_shown facts k (n ∷ names) [] e = refl
+walk_shown facts k (n ∷ names) (h ∷ houses) e =
     let (first, rest) = and_parts (shown (NameMeans k n h) facts) (walks facts h names houses) e in
-    rw (first, walk-shown facts h names houses rest)
+    rw (first, walk_shown facts h names houses rest)
 
-pub shown-walk : (facts : List Fact) (k : ℕ) (names houses : List ℕ) → length houses ≡ length names →
+pub shown_walk : (facts : List Fact) (k : ℕ) (names houses : List ℕ) → length houses ≡ length names →
     unshown facts k names houses ≡ None → walks facts k names houses ≡ true
 unfolding walks unshown
-shown-walk facts k [] [] same e = refl
-shown-walk facts k [] (h ∷ houses) same e = impossible (omega arith)
-shown-walk facts k (n ∷ names) [] same e = impossible (omega arith)
-shown-walk facts k (n ∷ names) (h ∷ houses) same e =
-    let (first, rest) = none-missing (shown (NameMeans k n h) facts) (unshown facts h names houses) e in
-    and_from (shown (NameMeans k n h) facts) (walks facts h names houses) first (shown-walk facts h names houses (omega arith) rest)
+shown_walk facts k [] [] same e = refl
+shown_walk facts k [] (h ∷ houses) same e = impossible (omega arith)
+shown_walk facts k (n ∷ names) [] same e = impossible (omega arith)
+shown_walk facts k (n ∷ names) (h ∷ houses) same e =
+    let (first, rest) = none_missing (shown (NameMeans k n h) facts) (unshown facts h names houses) e in
+    and_from (shown (NameMeans k n h) facts) (walks facts h names houses) first (shown_walk facts h names houses (omega arith) rest)
 
-pub walk-length : (facts : List Fact) (k : ℕ) (names houses : List ℕ) → walks facts k names houses ≡ true → length houses ≡ length names
+pub walk_length : (facts : List Fact) (k : ℕ) (names houses : List ℕ) → walks facts k names houses ≡ true → length houses ≡ length names
 unfolding walks
-walk-length facts k [] [] e = refl
-walk-length facts k [] (h ∷ houses) e = impossible (cc)
-walk-length facts k (n ∷ names) [] e = impossible (cc)
-walk-length facts k (n ∷ names) (h ∷ houses) e =
-    ap suc (walk-length facts h names houses (and_parts (shown (NameMeans k n h) facts) (walks facts h names houses) e).1)
+walk_length facts k [] [] e = refl
+walk_length facts k [] (h ∷ houses) e = impossible (cc)
+walk_length facts k (n ∷ names) [] e = impossible (cc)
+walk_length facts k (n ∷ names) (h ∷ houses) e =
+    ap suc (walk_length facts h names houses (and_parts (shown (NameMeans k n h) facts) (walks facts h names houses) e).1)
 
-pub known-all : (houses : List ℕ) → known_houses houses ≡ true → AllByRecursion (λ h. h ≤ 1023) houses
+pub known_all : (houses : List ℕ) → known_houses houses ≡ true → AllByRecursion (λ h. h ≤ 1023) houses
 unfolding known_houses
-known-all [] e = tt
-known-all (h ∷ houses) e =
+known_all [] e = tt
+known_all (h ∷ houses) e =
     let (first, rest) = and_parts (leb h 1023) (known_houses houses) e in
-    (leb-true h 1023 first, known-all houses rest)
+    (leb-true h 1023 first, known_all houses rest)
 
 pub all_known : (houses : List ℕ) → AllByRecursion (λ h. h ≤ 1023) houses → known_houses houses ≡ true
 unfolding known_houses

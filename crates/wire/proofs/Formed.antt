@@ -11,8 +11,8 @@ use Rattle.wire.specs.Format.{certificate_bytes}
 use Rattle.wire.specs.Numbers.{places}
 
 module _ (names : List ℕ) (few : length names ≤ 6) where
-  padded-length : length (names ++ replicate (6 - length names) 0) ≡ 6
-  padded-length = simp (length-append, length-replicate) (omega arith)
+  padded_length : length (names ++ replicate (6 - length names) 0) ≡ 6
+  padded_length = simp (length-append, length-replicate) (omega arith)
 
   -- names that have a place each, with zeros behind them
   padded : places names ≡ names ++ replicate (6 - length names) 0
@@ -22,29 +22,29 @@ module _ (names : List ℕ) (few : length names ≤ 6) where
       = ap (λ n. replicate n 0) (sym all) ∙ sym (replicate-append-replicate (6 - length names) (length names) 0) in
       ap (λ xs. take 6 (names ++ xs)) zeros
       ∙ (ap (take 6) (sym (append_assoc names (replicate (6 - length names) 0) (replicate (length names) 0)))
-      ∙ take_at (names ++ replicate (6 - length names) 0) (replicate (length names) 0) 6 padded-length)
+      ∙ take_at (names ++ replicate (6 - length names) 0) (replicate (length names) 0) 6 padded_length)
 
-  places-length : length (places names) ≡ 6
-  places-length = ap length padded ∙ padded-length
+  places_length : length (places names) ≡ 6
+  places_length = ap length padded ∙ padded_length
 
-  pub places-front : take (length names) (places names) ≡ names
-  places-front = ap (take (length names)) padded ∙ take_at names (replicate (6 - length names) 0) (length names) refl
+  pub places_front : take (length names) (places names) ≡ names
+  places_front = ap (take (length names)) padded ∙ take_at names (replicate (6 - length names) 0) (length names) refl
 
   places_behind : drop (length names) (places names) ≡ replicate (6 - length names) 0
   places_behind = ap (drop (length names)) padded ∙ drop_at names (replicate (6 - length names) 0) (length names) refl
 
-sensible-if : (st : Statement) → StatementFits st → has_some_right st ≡ true → Sensible st
-sensible-if (Name n) fits some = fits
-sensible-if (Rights set delegable) fits some = (ltb-true 0 set some, fits)
+sensible_if : (st : Statement) → StatementFits st → has_some_right st ≡ true → Sensible st
+sensible_if (Name n) fits some = fits
+sensible_if (Rights set delegable) fits some = (ltb-true 0 set some, fits)
 
-sensible-fits : (st : Statement) → Sensible st → StatementFits st × (has_some_right st ≡ true)
-sensible-fits (Name n) ok = (ok, refl)
-sensible-fits (Rights set delegable) ok = (ok.1, lt-ltb 0 set ok.0)
+sensible_fits : (st : Statement) → Sensible st → StatementFits st × (has_some_right st ≡ true)
+sensible_fits (Name n) ok = (ok, refl)
+sensible_fits (Rights set delegable) ok = (ok.1, lt-ltb 0 set ok.0)
 
 -- what `inRange` tests
-in-range : (f : Fields) → in_range (certificate_of f) ≡ true →
+in_range_lem : (f : Fields) → in_range (certificate_of f) ≡ true →
     (f.issuer ≤ 1023) × (f.house ≤ 1023) × (length f.names ≤ 6) × (has_some_right f.statement ≡ true)
-in-range f ok =
+in_range_lem f ok =
     let (issuer, ok₁) = and_parts (leb f.issuer 1023) (leb f.house 1023 && (leb (length f.names) 6 && has_some_right f.statement)) ok in
     let (house, ok₂) = and_parts (leb f.house 1023) (leb (length f.names) 6 && has_some_right f.statement) ok₁ in
     let (count, some) = and_parts (leb (length f.names) 6) (has_some_right f.statement) ok₂ in
@@ -53,18 +53,18 @@ in-range f ok =
 pub formed : (f : Fields) → Fits f → in_range (certificate_of f) ≡ true →
     WellFormed (certificate_of f) × (certificate_bytes (certificate_of f) ≡ fields_bytes f)
 formed f fits ok =
-    let (issuer, house, few, some) = in-range f ok in
-    let front : take (length f.names) (places f.names) ≡ f.names = places-front f.names few in (
+    let (issuer, house, few, some) = in_range_lem f ok in
+    let front : take (length f.names) (places f.names) ≡ f.names = places_front f.names few in (
       record {
         issuer_known = omega arith;
         house_known = omega arith;
         first_fits = fits.first_fits;
         last_fits = fits.last_fits;
-        six_places = places-length f.names few;
+        six_places = places_length f.names few;
         few_names = few;
         names_fit = rw front fits.names_fit;
         zero_behind = places_behind f.names few;
-        sensible = sensible-if f.statement fits.statement_fits some;
+        sensible = sensible_if f.statement fits.statement_fits some;
       },
       rw front,
     )
@@ -81,14 +81,14 @@ fields_of c = record {
 }
 
 -- the fields fit, have values that they may have, and give the certificate and its bytes
-pub record Fields-of (c : Certificate) (f : Fields) : Type 0 where
+pub record FieldsOf (c : Certificate) (f : Fields) : Type 0 where
   pub fits : Fits f
-  pub in-range : in_range (certificate_of f) ≡ true
+  pub in_range_lem : in_range (certificate_of f) ≡ true
   pub same : certificate_of f ≡ c
   pub same_bytes : certificate_bytes c ≡ fields_bytes f
 
-pub fields-of : (c : Certificate) → WellFormed c → Fields-of c (fields_of c)
-fields-of c w =
+pub fields_of_lem : (c : Certificate) → WellFormed c → FieldsOf c (fields_of c)
+fields_of_lem c w =
     let count = c.subject.count in
     let array = c.subject.names in
     let names = names_of c.subject in
@@ -99,7 +99,7 @@ fields-of c w =
     ∙ (ap (λ n. names ++ replicate (6 - n) 0) long
     ∙ (ap (λ xs. names ++ xs) (sym w.zero_behind)
     ∙ take-append-drop count array)) in
-    let (fits, some) = sensible-fits c.statement w.sensible in
+    let (fits, some) = sensible_fits c.statement w.sensible in
     record {
       fits = record {
         issuer_fits = omega arith;
@@ -110,7 +110,7 @@ fields-of c w =
         names_fit = w.names_fit;
         statement_fits = fits;
       };
-      in-range =
+      in_range_lem =
           and_from _ _ (le-leb c.issuer 1023 (omega arith))
           (and_from _ _ (le-leb c.subject.house 1023 (omega arith))
           (and_from _ _ (le-leb (length names) 6 few) some));

@@ -6,8 +6,8 @@ use Rattle.certificates.specs.declared.Statement.TheVariants.{Name, Rights}
 use Rattle.certificates.specs.declared.Subject.{Subject}
 use Rattle.std.proofs.lemmas.Bool.{eqb-true, eqb-false}
 use Rattle.std.specs.List.{flat_map, AllByRecursion}
-use Rattle.wire.proofs.Numerals.{number-part, byte-part, names-part}
-use Rattle.wire.proofs.Parts.{impossible, Part, both, turned, told-by, chosen, never}
+use Rattle.wire.proofs.Numerals.{number_part, byte_part, names_part}
+use Rattle.wire.proofs.Parts.{impossible, Part, both, turned, told_by, chosen, never}
 use Rattle.wire.specs.Exact.{fields_bytes, certificate_of, StatementFits, Fits}
 use Rattle.wire.specs.Format.{statement_bytes}
 use Rattle.wire.specs.Numbers.{bytes, take_number, and_then, places}
@@ -26,29 +26,29 @@ tagged : (st : Statement) → tag_of st ∷ body_of st ≡ statement_bytes st
 tagged (Name name) = refl
 tagged (Rights set delegable) = refl
 
-small-tag : (st : Statement) → tag_of st < 256
-small-tag (Name name) = omega arith
-small-tag (Rights set true) = omega arith
-small-tag (Rights set false) = omega arith
+small_tag : (st : Statement) → tag_of st < 256
+small_tag (Name name) = omega arith
+small_tag (Rights set true) = omega arith
+small_tag (Rights set false) = omega arith
 
 -- the tag is the statement's, and the statement fits its bytes
 abbrev Stated : ℕ → Statement → Type 0
 Stated tag st = (tag ≡ tag_of st) × StatementFits st
 
-name-part : (tag : ℕ) → tag ≡ 0 → Part (λ s. and_then (take_number 2 s) λ name rest. Some (Name name, rest)) (λ st. st) body_of (Stated tag)
-name-part tag is = told-by (λ name fits. (Name name, (is, fits), refl, refl)) back (turned Name (number-part 2))
+name_part : (tag : ℕ) → tag ≡ 0 → Part (λ s. and_then (take_number 2 s) λ name rest. Some (Name name, rest)) (λ st. st) body_of (Stated tag)
+name_part tag is = told_by (λ name fits. (Name name, (is, fits), refl, refl)) back (turned Name (number_part 2))
   where
     back : (st : Statement) → Stated tag st → (name : ℕ) × (name < 256 ^ 2) × (Name name ≡ st) × (bytes 2 name ≡ body_of st)
     back (Name name) fits = (name, fits.1, refl, refl)
     back (Rights set true) fits = impossible (omega arith)
     back (Rights set false) fits = impossible (omega arith)
 
-rights-part : (tag : ℕ) (delegable : Bool) → tag ≡ cond delegable 2 1 →
+rights_part : (tag : ℕ) (delegable : Bool) → tag ≡ cond delegable 2 1 →
     Part (λ s. take_rights s delegable) (λ st. st) body_of (Stated tag)
-rights-part tag delegable is = told-by
+rights_part tag delegable is = told_by
     (λ set fits. (Rights set delegable, (is, fits), refl, refl))
     (back delegable is)
-    (turned (λ set. Rights set delegable) (number-part 8))
+    (turned (λ set. Rights set delegable) (number_part 8))
   where
     back : (delegable : Bool) → tag ≡ cond delegable 2 1 → (st : Statement) → Stated tag st →
         (set : ℕ) × (set < 256 ^ 8) × (Rights set delegable ≡ st) × (bytes 8 set ≡ body_of st)
@@ -59,11 +59,11 @@ rights-part tag delegable is = told-by
     back false is (Rights set true) fits = impossible (omega arith)
     back false is (Rights set false) fits = (set, fits.1, refl, refl)
 
-stated-part : (tag : ℕ) → Part (take_stated tag) (λ st. st) body_of (Stated tag)
-stated-part tag =
-    chosen (eqb tag 0) (λ is. name-part tag (eqb-true tag 0 is)) λ not0.
-    chosen (eqb tag 1) (λ is. rights-part tag false (eqb-true tag 1 is)) λ not1.
-    chosen (eqb tag 2) (λ is. rights-part tag true (eqb-true tag 2 is)) λ not2.
+stated_part : (tag : ℕ) → Part (take_stated tag) (λ st. st) body_of (Stated tag)
+stated_part tag =
+    chosen (eqb tag 0) (λ is. name_part tag (eqb-true tag 0 is)) λ not0.
+    chosen (eqb tag 1) (λ is. rights_part tag false (eqb-true tag 1 is)) λ not1.
+    chosen (eqb tag 2) (λ is. rights_part tag true (eqb-true tag 2 is)) λ not2.
     never (other not0 not1 not2)
   where
     other : eqb tag 0 ≡ false → eqb tag 1 ≡ false → eqb tag 2 ≡ false → (st : Statement) → Stated tag st → ⊥
@@ -71,8 +71,8 @@ stated-part tag =
     other not0 not1 not2 (Rights set true) fits = eqb-false tag 2 not2 fits.0
     other not0 not1 not2 (Rights set false) fits = eqb-false tag 1 not1 fits.0
 
-statement-part : Part take_statement (λ st. st) statement_bytes StatementFits
-statement-part = told-by forth back (both take_stated byte-part stated-part)
+statement_part : Part take_statement (λ st. st) statement_bytes StatementFits
+statement_part = told_by forth back (both take_stated byte_part stated_part)
   where
     forth : (p : ℕ × Statement) → (p.0 < 256) × Stated p.0 p.1 →
         (st : Statement) × StatementFits st × (p.1 ≡ st) × (p.0 ∷ body_of p.1 ≡ statement_bytes st)
@@ -80,28 +80,28 @@ statement-part = told-by forth back (both take_stated byte-part stated-part)
 
     back : (st : Statement) → StatementFits st →
         (p : ℕ × Statement) × ((p.0 < 256) × Stated p.0 p.1) × (p.1 ≡ st) × (p.0 ∷ body_of p.1 ≡ statement_bytes st)
-    back st fits = ((tag_of st, st), (small-tag st, (refl, fits)), refl, tagged st)
+    back st fits = ((tag_of st, st), (small_tag st, (refl, fits)), refl, tagged st)
 
 -- a house and the names that follow it: their bytes, their subject, and when they fit
-abbrev namedBytes : ℕ × List ℕ → List ℕ
-namedBytes p = bytes 2 p.0 ++ (length p.1 ∷ flat_map (bytes 2) p.1)
+abbrev named_bytes : ℕ × List ℕ → List ℕ
+named_bytes p = bytes 2 p.0 ++ (length p.1 ∷ flat_map (bytes 2) p.1)
 
 abbrev named_of : ℕ × List ℕ → Subject
 named_of p = record { house = p.0; names = places p.1; count = length p.1 }
 
-abbrev Named-fit : ℕ × List ℕ → Type 0
-Named-fit p = (p.0 < 2 ^ 16) × ((length p.1 < 2 ^ 8) × AllByRecursion (λ n. n < 2 ^ 16) p.1)
+abbrev NamedFit : ℕ × List ℕ → Type 0
+NamedFit p = (p.0 < 2 ^ 16) × ((length p.1 < 2 ^ 8) × AllByRecursion (λ n. n < 2 ^ 16) p.1)
 
-subject-part : Part take_subject named_of namedBytes Named-fit
-subject-part = told-by
+subject_part : Part take_subject named_of named_bytes NamedFit
+subject_part = told_by
     (λ p fits. ((p.0, p.1.1), (fits.0, (rw fits.1.1.0 fits.1.0, fits.1.1.1)), rw fits.1.1.0, rw fits.1.1.0))
     (λ p fits. ((p.0, (length p.1, p.1)), (fits.0, (fits.1.0, (refl, fits.1.1))), refl, refl))
-    (both _ (number-part 2) λ house. both _ byte-part λ count.
+    (both _ (number_part 2) λ house. both _ byte_part λ count.
     turned {B = Subject} (λ (six : Six). record { house = house; names = six.numbers; count = count })
-    (turned {B = Six} (λ numbers. record { numbers = places numbers }) (names-part count)))
+    (turned {B = Six} (λ numbers. record { numbers = places numbers }) (names_part count)))
 
-pub frame-part : Part frame certificate_of fields_bytes Fits
-frame-part = told-by
+pub frame_part : Part frame certificate_of fields_bytes Fits
+frame_part = told_by
     (λ p fits. (
       record { issuer = p.0; first = p.1.0; last = p.1.1.0; house = p.1.1.1.0.0; names = p.1.1.1.0.1; statement = p.1.1.1.1 },
       record {
@@ -122,5 +122,5 @@ frame-part = told-by
       refl,
       refl,
     ))
-    (both _ (number-part 2) λ issuer. both _ (number-part 4) λ first. both _ (number-part 4) λ last. both _ subject-part λ named.
-    turned {B = Certificate} (λ st. record { issuer = issuer; subject = named_of named; first = first; last = last; statement = st }) statement-part)
+    (both _ (number_part 2) λ issuer. both _ (number_part 4) λ first. both _ (number_part 4) λ last. both _ subject_part λ named.
+    turned {B = Certificate} (λ st. record { issuer = issuer; subject = named_of named; first = first; last = last; statement = st }) statement_part)

@@ -6,8 +6,8 @@ use Rattle.std.proofs.ByRecursion.{All-append}
 use Rattle.std.proofs.lemmas.List.{take-append-drop, take_at, take-append-le, length-append, append_assoc}
 use Rattle.std.specs.List.{flat_map, AllByRecursion}
 use Rattle.wire.proofs.Exact.{Outcome, event, refused, stop, outcome, read_back, fields_read}
-use Rattle.wire.proofs.Formed.{fields_of, fields-of}
-use Rattle.wire.proofs.Numerals.{length-bytes}
+use Rattle.wire.proofs.Formed.{fields_of, fields_of_lem}
+use Rattle.wire.proofs.Numerals.{length_bytes}
 use Rattle.wire.proofs.Parts.{impossible}
 use Rattle.wire.specs.Enough.{followed_by, Enough}
 use Rattle.wire.specs.Exact.{Writable, Fields, Fits, fields_bytes}
@@ -19,34 +19,34 @@ use Rattle.wire.specs.declared.events.Event.TheVariants.{Issued, Revoked, DayPas
 use Rattle.wire.specs.declared.faults.Fault.{Fault}
 use Rattle.wire.specs.declared.faults.Fault.TheVariants.{Malformed, OutOfRange}
 
-names-length : (names : List ℕ) → length (flat_map (bytes 2) names) ≡ 2 * length names
-names-length [] = refl
-names-length (n ∷ names) =
-    omega (arith, length-append (bytes 2 n) (flat_map (bytes 2) names), length-bytes 2 n, names-length names)
+names_length : (names : List ℕ) → length (flat_map (bytes 2) names) ≡ 2 * length names
+names_length [] = refl
+names_length (n ∷ names) =
+    omega (arith, length-append (bytes 2 n) (flat_map (bytes 2) names), length_bytes 2 n, names_length names)
 
-statement-length : (st : Statement) → length (statement_bytes st) ≤ 9
-statement-length (Name name) = omega (arith, length-bytes 2 name)
-statement-length (Rights set delegable) = omega (arith, length-bytes 8 set)
+statement_length : (st : Statement) → length (statement_bytes st) ≤ 9
+statement_length (Name name) = omega (arith, length_bytes 2 name)
+statement_length (Rights set delegable) = omega (arith, length_bytes 8 set)
 
 -- a kind, 13 bytes, at most 255 names of two bytes each, and at most 9 bytes of a statement
-fields-length : (f : Fields) → Fits f → length (1 ∷ fields_bytes f) ≤ 533
-fields-length f fits =
+fields_length : (f : Fields) → Fits f → length (1 ∷ fields_bytes f) ≤ 533
+fields_length f fits =
     simp length-append
     (omega (
       arith,
-      length-bytes 2 f.issuer,
-      length-bytes 4 f.first,
-      length-bytes 4 f.last,
-      length-bytes 2 f.house,
-      names-length f.names,
-      statement-length f.statement,
+      length_bytes 2 f.issuer,
+      length_bytes 4 f.first,
+      length_bytes 4 f.last,
+      length_bytes 2 f.house,
+      names_length f.names,
+      statement_length f.statement,
       fits.count_fits,
     ))
 
-event-length : (e : Event) → Writable e → length (bytes_of_event e) ≤ 533
-event-length (Issued c) w = let so = fields-of c w in rw so.same_bytes (fields-length (fields_of c) so.fits)
-event-length (Revoked number) w = omega (arith, length-bytes 2 number)
-event-length DayPassed w = omega arith
+event_length : (e : Event) → Writable e → length (bytes_of_event e) ≤ 533
+event_length (Issued c) w = let so = fields_of_lem c w in rw so.same_bytes (fields_length (fields_of c) so.fits)
+event_length (Revoked number) w = omega (arith, length_bytes 2 number)
+event_length DayPassed w = omega arith
 
 -- what a longer list begins with, a list that is long enough begins with
 begins : (s more w rest : List ℕ) → length w ≤ length s → s ++ more ≡ w ++ rest → s ≡ w ++ drop (length w) s
@@ -60,13 +60,13 @@ module _ (s more : List ℕ) (long : 533 ≤ length s) where
   still : {r : Reading} → event_read s ≡ stopped → Outcome (s ++ more) r → r ≡ stopped
   still none (event {e = e} {rest = rest} w is) =
       let b = bytes_of_event e in
-      let short : length b ≤ length s = omega (arith, event-length e w) in
+      let short : length b ≤ length s = omega (arith, event_length e w) in
       let read : event_read s ≡ Ok (e, drop (length b) s)
       = ap event_read (begins s more b rest short is) ∙ read_back e w (drop (length b) s) in
       impossible (cc)
   still none (refused {rest = rest} f fits out is) =
       let b = 1 ∷ fields_bytes f in
-      let short : length b ≤ length s = omega (arith, fields-length f fits) in
+      let short : length b ≤ length s = omega (arith, fields_length f fits) in
       let read : event_read s ≡ Err (OutOfRange, drop (length b) s)
       = ap event_read (begins s more b rest short is) ∙ rw (fields_read f fits (drop (length b) s), out) in
       let same : ◌≡◌ {A = Fault × List ℕ} (Malformed, []) (OutOfRange, drop (length b) s) = cc in

@@ -53,12 +53,12 @@ turned {B} {reader} {written} f part = record {
 }
 
 -- the same values and bytes, told by another index
-pub told-by : {I J A : Type 0} {reader : List ℕ → Taken A} {value : I → A} {written : I → List ℕ} {Fit : I → Type 0}
+pub told_by : {I J A : Type 0} {reader : List ℕ → Taken A} {value : I → A} {written : I → List ℕ} {Fit : I → Type 0}
     {value' : J → A} {written' : J → List ℕ} {Fit' : J → Type 0} →
     ((i : I) → Fit i → (j : J) × Fit' j × (value i ≡ value' j) × (written i ≡ written' j)) →
     ((j : J) → Fit' j → (i : I) × Fit i × (value i ≡ value' j) × (written i ≡ written' j)) →
     Part reader value written Fit → Part reader value' written' Fit'
-told-by {reader} forth back part = record {
+told_by {reader} forth back part = record {
   sound = λ s u a rest e.
       let (i, fit, v, w) = part.sound s u a rest e in
       let (j, fit', v', w') = forth i fit in

@@ -1,11 +1,11 @@
-use Rattle.pieces.proofs.PieceByPiece.{others-go-on}
+use Rattle.pieces.proofs.PieceByPiece.{others_go_on}
 use Rattle.pieces.proofs.note_within.Goals as goal
 use Rattle.pieces.specs.Pieces.{stopped}
 use Rattle.std.proofs.Common.{sym, ap, ◌∙◌, rules}
 
 pub returns-in_default-matches : goal.returns-in_default-matches
 returns-in_default-matches c = record {
-  value = sym (ap stopped c.in-Some.is ∙ others-go-on c.in-Some.fault c.in_default-matches.not-Malformed);
+  value = sym (ap stopped c.in-Some.is ∙ others_go_on c.in-Some.fault c.in_default-matches.not-Malformed);
   items = search rules;
   room = search rules;
 }

@@ -1,21 +1,21 @@
 use Rattle.std.proofs.Common.{◌<◌, Some, None, vec_items, sym, refl, ◌∙◌, inl, inr, arith}
 use Rattle.gates.specs.Gates.{state_of}
-use Rattle.pieces.proofs.Joined.{piece-kept}
-use Rattle.pieces.proofs.PieceByPiece.{none-taken, one-taken, reading-ends, piece-ends}
+use Rattle.pieces.proofs.Joined.{piece_kept}
+use Rattle.pieces.proofs.PieceByPiece.{none_taken, one_taken, reading_ends, piece_ends}
 use Rattle.pieces.proofs.take_ready.Goals as goal
 use Rattle.pieces.proofs.take_ready.Goals.{then-loop-gate-test+else-ready, else-loop-gate-test}
 use Rattle.std.proofs.ByRecursion.{All-from_get_or}
 
 pub loop-gate-init : goal.loop-gate-init
 loop-gate-init c = (
-  none-taken (state_of c.args.gate) (vec_items c.args.answers.now) c.args.piece.now c.args.last
+  none_taken (state_of c.args.gate) (vec_items c.args.answers.now) c.args.piece.now c.args.last
       (All-from_get_or (λ b. b < 256) c.args.piece.now 0 (λ i h. (c.type_inv.piece i).fits)),
   refl,
 )
 
 pub loop-gate-preserved : goal.loop-gate-preserved
 loop-gate-preserved c = (
-  one-taken (state_of c.args.gate) (state_of c.loop-gate.gate) (state_of c.take_first-next.result.0) (vec_items c.args.answers.now) c.args.piece.now c.args.last
+  one_taken (state_of c.args.gate) (state_of c.loop-gate.gate) (state_of c.take_first-next.result.0) (vec_items c.args.answers.now) c.args.piece.now c.args.last
       (vec_items c.loop-gate.answers) c.loop-gate.rest.now c.take_first-next.result.1 c.take_first-next.result.2.now
       c.loop-gate.invariant.0 (sym c.if-ready.ensures) c.take_first-next.ensures.value c.take_first-next.ensures.shorter
       (vec_items c.note_within.new.answers) (sym c.if-note_within.ensures.value) c.note_within.ensures.items,
@@ -29,7 +29,7 @@ returns-then-note_within c =
     let before = vec_items c.args.answers.now in
     let after = vec_items c.note_within.new.answers in
     let piece = c.args.piece.now in
-    let taken = reading-ends gate (state_of c.loop-gate.gate) next before piece c.args.last (vec_items c.loop-gate.answers) c.loop-gate.rest.now
+    let taken = reading_ends gate (state_of c.loop-gate.gate) next before piece c.args.last (vec_items c.loop-gate.answers) c.loop-gate.rest.now
     c.take_first-next.result.1 c.take_first-next.result.2.now c.loop-gate.invariant.0 (sym c.if-ready.ensures) c.take_first-next.ensures.value
     c.take_first-next.ensures.shorter after (All-from_get_or (λ b. b < 256) piece 0 (λ i h. (c.type_inv.piece i).fits)) (sym c.if-note_within.ensures.value) c.note_within.ensures.items in
     record {
@@ -37,7 +37,7 @@ returns-then-note_within c =
       until = tt;
       fewer = omega (arith, taken.fewer, c.note_within.new.answers.ok.0, c.args.answers.now.ok.0);
       room = c.note_within.ensures.room ∙ c.loop-gate.invariant.1;
-      promised = piece-kept gate before piece c.args.last next after None taken;
+      promised = piece_kept gate before piece c.args.last next after None taken;
     }
 
 pub returns : goal.returns
@@ -47,7 +47,7 @@ returns c =
     let after = vec_items c.loop-gate.answers in
     let piece = c.args.piece.now in
     let rest = c.loop-gate.rest.now in
-    let taken = piece-ends gate (state_of c.loop-gate.gate) before piece c.args.last after rest
+    let taken = piece_ends gate (state_of c.loop-gate.gate) before piece c.args.last after rest
     (All-from_get_or (λ b. b < 256) piece 0 (λ i h. (c.type_inv.piece i).fits)) c.loop-gate.invariant.0 in
     record {
       taken = taken.whole;
@@ -57,5 +57,5 @@ returns c =
       ];
       fewer = omega (arith, taken.fewer, c.loop-gate.answers.ok.0, c.args.answers.now.ok.0);
       room = c.loop-gate.invariant.1;
-      promised = piece-kept gate before piece c.args.last (state_of c.loop-gate.gate) after (Some rest) taken;
+      promised = piece_kept gate before piece c.args.last (state_of c.loop-gate.gate) after (Some rest) taken;
     }

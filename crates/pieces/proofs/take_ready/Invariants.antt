@@ -1,11 +1,11 @@
-use Rattle.pieces.proofs.PieceByPiece.{So-far}
+use Rattle.pieces.proofs.PieceByPiece.{SoFar}
 use Rattle.pieces.proofs.take_ready.Given as goal
 use Rattle.gates.specs.Gates.{state_of}
 use Rattle.std.proofs.Common.{◌≡◌, length, vec_items, vec_capacity}
 
 abbrev pub invariant-loop-gate : goal.invariant-loop-gate
 invariant-loop-gate l =
-    So-far (state_of l.initial.gate) (vec_items l.initial.answers) l.piece l.last (state_of l.gate) (vec_items l.answers) l.rest
+    SoFar (state_of l.initial.gate) (vec_items l.initial.answers) l.piece l.last (state_of l.gate) (vec_items l.answers) l.rest
     × (vec_capacity l.answers ≡ vec_capacity l.initial.answers)
 
 abbrev pub decreases-loop-gate : goal.decreases-loop-gate

@@ -1,5 +1,5 @@
 use Rattle.registry.specs.Numbered.{certificates_of}
-use Rattle.sheet_bytes.proofs.Sizes.{counted_none, counted-more, counted-all}
+use Rattle.sheet_bytes.proofs.Sizes.{counted_none, counted_more, counted_all}
 use Rattle.sheet_bytes.proofs.marked_bytes.Goals as goal
 use Rattle.std.proofs.lemmas.List.{length-map}
 use Rattle.turns.specs.Found.{line_of, lines_found}
@@ -14,7 +14,7 @@ loop-i-init c = counted_none c.args.marks.now (lines_found (certificates_of c.ar
 pub loop-i-preserved : goal.loop-i-preserved
 loop-i-preserved c =
     let cs = certificates_of c.args.registry.now in
-    counted-more c.args.marks.now (lines_found cs c.args.found.now) c.loop-i.i c.loop-i.bytes c.bytes_at-bytes.result
+    counted_more c.args.marks.now (lines_found cs c.args.found.now) c.loop-i.i c.loop-i.bytes c.bytes_at-bytes.result
     (omega (arith, length-map c.args.found.now (line_of cs))) c.loop-i.invariant c.bytes_at-bytes.ensures.value c.bytes_at-bytes.ensures.few
 
 pub returns : goal.returns
@@ -22,6 +22,6 @@ returns c =
     let cs = certificates_of c.args.registry.now in
     record {
       few = omega (arith, c.loop-i.invariant.few);
-      value = counted-all c.args.marks.now (lines_found cs c.args.found.now) c.loop-i.i c.loop-i.bytes
+      value = counted_all c.args.marks.now (lines_found cs c.args.found.now) c.loop-i.i c.loop-i.bytes
           (omega (arith, length-map c.args.found.now (line_of cs))) c.loop-i.invariant;
     }

@@ -1,5 +1,5 @@
 use Rattle.std.proofs.Common.{◌+◌, ◌*◌, drop, sym, ap, ◌∙◌, arith}
-use Rattle.sheet_bytes.proofs.Written.{number_more, numbers-all}
+use Rattle.sheet_bytes.proofs.Written.{number_more, numbers_all}
 use Rattle.sheet_bytes.proofs.write_u16s.Goals as goal
 use Rattle.std.specs.List.{flat_map}
 use Rattle.wire.specs.Numbers.{bytes}
@@ -15,4 +15,4 @@ loop-i-preserved c =
     ∙ ap (λ out. sets out (c.args.at + 2 * (c.loop-i.i + 1)) (flat_map (bytes 2) (drop (c.loop-i.i + 1) c.args.numbers.now))) (sym c.write_u16.ensures))
 
 pub returns : goal.returns
-returns c = sym (c.loop-i.invariant ∙ numbers-all c.loop-i.out c.args.numbers.now (c.args.at + 2 * c.loop-i.i) c.loop-i.i (omega arith))
+returns c = sym (c.loop-i.invariant ∙ numbers_all c.loop-i.out c.args.numbers.now (c.args.at + 2 * c.loop-i.i) c.loop-i.i (omega arith))

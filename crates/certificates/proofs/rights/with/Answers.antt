@@ -1,4 +1,4 @@
-use Rattle.certificates.proofs.Bits.{member-or, member-power}
+use Rattle.certificates.proofs.Bits.{member_or, member_power}
 use Rattle.certificates.proofs.rights.with.Goals as goal
 use Rattle.certificates.specs.Rights.{member}
 use Rattle.std.proofs.lemmas.Nat.{one_shl}
@@ -8,5 +8,5 @@ use Rattle.std.proofs.Common.{◌||◌, ap, ◌∙◌, arith}
 pub returns : goal.returns
 returns c q small =
     ap (λ n. member q (bit_or c.args.set n)) (one_shl c.args.right 64 (omega arith))
-    ∙ (member-or q c.args.set _
-    ∙ ap (λ b. member q c.args.set || b) (member-power q c.args.right))
+    ∙ (member_or q c.args.set _
+    ∙ ap (λ b. member q c.args.set || b) (member_power q c.args.right))

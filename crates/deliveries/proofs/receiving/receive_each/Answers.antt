@@ -1,14 +1,14 @@
 use Rattle.std.proofs.Common.{◌<◌, take, vec_items, arith}
-use Rattle.deliveries.proofs.InOrder.{none-along, one_along, one_more, stopped}
+use Rattle.deliveries.proofs.InOrder.{none_along, one_along, one_more, stopped}
 use Rattle.deliveries.proofs.receiving.receive_each.Goals as goal
 use Rattle.deliveries.specs.Lists.{bytes_of}
 use Rattle.gates.specs.Gates.{state_of}
-use Rattle.promise.proofs.OnCall.{all-kept}
+use Rattle.promise.proofs.OnCall.{all_kept}
 use Rattle.std.proofs.lemmas.List.{take_all}
 use Rattle.std.proofs.lemmas.Result.{err_from_is_err_and}
 
 pub loop-delivery-init : goal.loop-delivery-init
-loop-delivery-init c = none-along (state_of c.args.gate) c.args.memory.now (vec_items c.new-answers.result) c.new-answers.ensures.items
+loop-delivery-init c = none_along (state_of c.args.gate) c.args.memory.now (vec_items c.new-answers.result) c.new-answers.ensures.items
 
 pub returns-in_err-gate : goal.returns-in_err-gate
 returns-in_err-gate c =
@@ -41,5 +41,5 @@ returns c =
     record {
       value = so.same;
       memory = so.left;
-      promised = all-kept (state_of gate) (bytes_of ds) (state_of c.loop-delivery.gate) (vec_items c.loop-delivery.answers) known so.small so.same;
+      promised = all_kept (state_of gate) (bytes_of ds) (state_of c.loop-delivery.gate) (vec_items c.loop-delivery.answers) known so.small so.same;
     }

@@ -1,7 +1,7 @@
 use Rattle.std.proofs.Common.{◌<◌, vec_items, arith}
 use Rattle.deliveries.proofs.receiving.receive_kept.Goals as goal
 use Rattle.gates.specs.Gates.{state_of}
-use Rattle.promise.proofs.OnCall.{promise-kept}
+use Rattle.promise.proofs.OnCall.{promise_kept}
 
 pub returns : goal.returns
 returns c =
@@ -11,5 +11,5 @@ returns c =
     record {
       value = value;
       memory = c.in_ok-gate.ensures.memory;
-      promised = promise-kept (state_of gate) c.args.bytes.now _ (vec_items c.take_delivery.new.answers) known c.take_delivery.ensures.bytes value;
+      promised = promise_kept (state_of gate) c.args.bytes.now _ (vec_items c.take_delivery.new.answers) known c.take_delivery.ensures.bytes value;
     }

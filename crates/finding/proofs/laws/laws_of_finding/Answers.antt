@@ -1,6 +1,6 @@
-use Rattle.finding.proofs.Cases.{all-come-true}
-use Rattle.finding.proofs.Lawful.{finds-lawfully}
+use Rattle.finding.proofs.Cases.{all_come_true}
+use Rattle.finding.proofs.Lawful.{finds_lawfully}
 use Rattle.finding.proofs.laws.laws_of_finding.Goals as goal
 
 pub returns : goal.returns
-returns c = record { lawful = finds-lawfully; cases = all-come-true }
+returns c = record { lawful = finds_lawfully; cases = all_come_true }

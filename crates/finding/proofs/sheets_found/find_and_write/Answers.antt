@@ -1,18 +1,18 @@
 use Rattle.std.proofs.Common.{arith}
-use Rattle.finding.proofs.Answering.{looked, all-answered}
+use Rattle.finding.proofs.Answering.{looked, all_answered}
 use Rattle.finding.proofs.sheets_found.find_and_write.Goals as goal
 use Rattle.registry.specs.Numbered.{certificates_of}
-use Rattle.round_lines.proofs.Loops.{range-covers}
+use Rattle.round_lines.proofs.Loops.{range_covers}
 
 pub answer-requires-clause-room : goal.answer-requires-clause-room
 answer-requires-clause-room c =
     let cs = certificates_of c.args.registry.now in
-    let l = looked cs c.args.question.now (range-covers cs c.args.registry.now.sound) _ _ _ _ c.in_ok-found.found c.search.auto.names c.in_ok-found.ensures in
+    let l = looked cs c.args.question.now (range_covers cs c.args.registry.now.sound) _ _ _ _ c.in_ok-found.found c.search.auto.names c.in_ok-found.ensures in
     omega (arith, l.room, c.as_mut_slice.ensures.len, c.in_ok-found.found.marks.ok.0, c.in_ok-found.found.lines.found.ok.0)
 
 pub returns : goal.returns
 returns c =
     let cs = certificates_of c.args.registry.now in
     let (ready, all, many) = c.in_ok-found.ensures in
-    let l = looked cs c.args.question.now (range-covers cs c.args.registry.now.sound) _ _ _ _ c.in_ok-found.found c.search.auto.names c.in_ok-found.ensures in
-    all-answered cs c.args.question.now _ _ _ _ _ _ c.answer.result l.asked l.filled (c.answer.ensures c.search.new.names c.args.name_lines.now l.long all l.known)
+    let l = looked cs c.args.question.now (range_covers cs c.args.registry.now.sound) _ _ _ _ c.in_ok-found.found c.search.auto.names c.in_ok-found.ensures in
+    all_answered cs c.args.question.now _ _ _ _ _ _ c.answer.result l.asked l.filled (c.answer.ensures c.search.new.names c.args.name_lines.now l.long all l.known)

@@ -1,5 +1,5 @@
 use Rattle.std.proofs.Common.{◌≤◌, length, sym, ◌∙◌, arith}
-use Rattle.finding.proofs.Behind.{sheet-put}
+use Rattle.finding.proofs.Behind.{sheet_put}
 use Rattle.finding.proofs.sheets_found.write_sheet.Goals as goal
 use Rattle.finding.specs.Asking.{request_length}
 use Rattle.keeping.specs.Marks.{picked}
@@ -15,6 +15,6 @@ returns c =
     let long : request_length kept ≤ length c.args.request.now = omega (arith, c.marked_bytes-needed.ensures.value, c.if-request-needed.false) in (
       omega (arith, c.marked_bytes-needed.ensures.value),
       omega (arith, c.if-request-needed.false),
-      c.write_count.ensures ∙ sheet-put c.args.request.now (omega arith) kept _ long _
+      c.write_count.ensures ∙ sheet_put c.args.request.now (omega arith) kept _ long _
           (c.count_marked.ensures lines (length-map c.args.found.now (line_of cs) ∙ sym c.requires.many)) c.write_marked.result c.write_marked.ensures,
     )

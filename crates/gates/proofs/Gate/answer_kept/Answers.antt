@@ -1,8 +1,8 @@
 use Rattle.std.proofs.Common.{◌<◌, ◌≤◌, length, sym, ◌∙◌, arith}
 use Rattle.gates.proofs.Gate.answer_kept.Goals as goal
 use Rattle.gates.specs.Gates.{state_of}
-use Rattle.promise.proofs.Fronts.{front-answered}
-use Rattle.promise.proofs.OnCall.{of-answer, answer-kept}
+use Rattle.promise.proofs.Fronts.{front_answered}
+use Rattle.promise.proofs.OnCall.{of_answer, answer_kept_lem}
 use Rattle.promise.specs.Promise.{Bytes}
 use Rattle.std.proofs.ByRecursion.{All-from_get_or}
 
@@ -18,6 +18,6 @@ returns c =
     record {
       value = value;
       memory = c.read_and_ask.ensures.memory;
-      front = of-answer c.read_and_ask.result _ _ _ (λ a is long more. is ∙ sym (front-answered g few gate.registry.sound d more long)) value;
-      promised = of-answer c.read_and_ask.result _ _ _ (λ a is. answer-kept g d a known small is) value;
+      front = of_answer c.read_and_ask.result _ _ _ (λ a is long more. is ∙ sym (front_answered g few gate.registry.sound d more long)) value;
+      promised = of_answer c.read_and_ask.result _ _ _ (λ a is. answer_kept_lem g d a known small is) value;
     }

@@ -1,5 +1,5 @@
 use Rattle.std.proofs.Common.{vec_items, refl, arith}
-use Rattle.inquiries.proofs.Stretches.{begins, goes-along, all-along, asked-left, unasked-left}
+use Rattle.inquiries.proofs.Stretches.{begins, goes_along, all_along, asked_left, unasked_left}
 use Rattle.inquiries.proofs.days.spans_of.Goals as goal
 use Rattle.registry.specs.Numbered.{certificates_of}
 
@@ -8,26 +8,26 @@ stretches-init c = rw c.new-spans.ensures.items (begins (certificates_of c.args.
 
 pub returns-in-Err-clause-left : goal.returns-in-Err-clause-left
 returns-in-Err-clause-left c =
-    unasked-left (certificates_of c.args.registry.now) c.args.question.now c.args.names.now c.args.name_lines.now c.stretches.day (vec_items c.stretches.spans) c.stretches.since
+    unasked_left (certificates_of c.args.registry.now) c.args.question.now c.args.names.now c.args.name_lines.now c.stretches.day (vec_items c.stretches.spans) c.stretches.since
     c.stretches.names c.stretches.name_lines c.stretches.invariant c.in-Err.unfound _ _ (vec_items c.ask_on.new.spans) c.in-Err.ensures
 
 pub stretches-preserved : goal.stretches-preserved
 stretches-preserved c =
-    goes-along (certificates_of c.args.registry.now) c.args.question.now c.args.names.now c.args.name_lines.now c.stretches.day (vec_items c.stretches.spans) c.stretches.since
+    goes_along (certificates_of c.args.registry.now) c.args.question.now c.args.names.now c.args.name_lines.now c.stretches.day (vec_items c.stretches.spans) c.stretches.since
     c.stretches.names c.stretches.name_lines c.stretches.invariant c.in-Some.next c.in-Some.ensures _ _ (vec_items c.ask_on.new.spans) c.in-Ok.after c.in-Ok.ensures
 
 pub returns-in-Ok-end-clause-told : goal.returns-in-Ok-end-clause-told
 returns-in-Ok-end-clause-told c =
     rw c.in-Ok-end.ensures
-    (all-along (certificates_of c.args.registry.now) c.args.question.now c.args.names.now c.args.name_lines.now c.stretches.day (vec_items c.stretches.spans) c.stretches.since
+    (all_along (certificates_of c.args.registry.now) c.args.question.now c.args.names.now c.args.name_lines.now c.stretches.day (vec_items c.stretches.spans) c.stretches.since
     c.stretches.names c.stretches.name_lines c.stretches.invariant c.in_default.ensures _ _ (vec_items c.ask_on.new.spans) c.in-Ok.after c.in-Ok.ensures 4294967295 refl)
 
 pub returns-in-Ok-end-clause-left : goal.returns-in-Ok-end-clause-left
 returns-in-Ok-end-clause-left c =
-    asked-left (certificates_of c.args.registry.now) c.args.question.now c.args.names.now c.args.name_lines.now c.stretches.day (vec_items c.stretches.spans) c.stretches.since
+    asked_left (certificates_of c.args.registry.now) c.args.question.now c.args.names.now c.args.name_lines.now c.stretches.day (vec_items c.stretches.spans) c.stretches.since
     c.stretches.names c.stretches.name_lines c.stretches.invariant _ _ (vec_items c.ask_on.new.spans) c.in-Ok.after c.in-Ok.ensures
 
 pub returns-in-Err-end-clause-left : goal.returns-in-Err-end-clause-left
 returns-in-Err-end-clause-left c =
-    asked-left (certificates_of c.args.registry.now) c.args.question.now c.args.names.now c.args.name_lines.now c.stretches.day (vec_items c.stretches.spans) c.stretches.since
+    asked_left (certificates_of c.args.registry.now) c.args.question.now c.args.names.now c.args.name_lines.now c.stretches.day (vec_items c.stretches.spans) c.stretches.since
     c.stretches.names c.stretches.name_lines c.stretches.invariant _ _ (vec_items c.ask_on.new.spans) c.in-Ok.after c.in-Ok.ensures

@@ -1,5 +1,5 @@
-use Rattle.pieces.proofs.Joined.{pieces-join}
+use Rattle.pieces.proofs.Joined.{pieces_join}
 use Rattle.pieces.proofs.laws.law_of_pieces.Goals as goal
 
 pub returns : goal.returns
-returns c = pieces-join
+returns c = pieces_join

@@ -1,6 +1,6 @@
 use Rattle.std.proofs.Common.{◌≡◌, ◌+◌, vec_items, vec_len, refl, arith}
-use Rattle.registry.proofs.Indexed.{Indexes, indexes-entered, indexed}
-use Rattle.registry.proofs.Kept.{in-range-push}
+use Rattle.registry.proofs.Indexed.{Indexes, indexes_entered, indexed}
+use Rattle.registry.proofs.Kept.{in_range_push}
 use Rattle.registry.proofs.Registry.add_with_name.Goals as goal
 use Rattle.registry.specs.Numbered.{certificates_of}
 use Rattle.registry.specs.declared.Entry.{Entry}
@@ -18,8 +18,8 @@ invariant_of-self c =
     let longer : vec_len c.insert.new.self ≡ vec_len g.index + 1 = rw ok at c.insert.ensures.len in
     let pushed = c.push_reserved.ensures.items in
     let so : Indexes (vec_items c.insert.new.self) (vec_items c.push_reserved.new.self) =
-    rw (entered, pushed) (indexes-entered (vec_items g.index) (certificates_of g) (indexed g) certificate place entry c.place-place.ensures refl (omega arith) c.requires.new) in
-    let sound = in-range-push (certificates_of g) certificate g.sound c.requires.sound in
+    rw (entered, pushed) (indexes_entered (vec_items g.index) (certificates_of g) (indexed g) certificate place entry c.place-place.ensures refl (omega arith) c.requires.new) in
+    let sound = in_range_push (certificates_of g) certificate g.sound c.requires.sound in
     record {
       sound = rw pushed sound;
       few = omega arith;

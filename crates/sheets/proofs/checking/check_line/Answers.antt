@@ -1,8 +1,8 @@
 use Rattle.std.proofs.Common.{sym, ap, ◌∙◌}
 use Rattle.registry.specs.Numbered.{certificates_of}
-use Rattle.sheets.proofs.JudgedBy.{showing, judged-by}
-use Rattle.sheets.proofs.LinePassing.{last-known, sane-fact}
-use Rattle.sheets.proofs.Remembering.{remembers-more}
+use Rattle.sheets.proofs.JudgedBy.{showing, judged_by_lem}
+use Rattle.sheets.proofs.LinePassing.{last_known, sane_fact}
+use Rattle.sheets.proofs.Remembering.{remembers_more}
 use Rattle.sheets.proofs.checking.check_line.Goals as goal
 use Rattle.sheets.specs.Checking.{followed}
 use Rattle.sheets.specs.Sheets.{fact_of}
@@ -17,7 +17,7 @@ returns-in_err-judge_then_note c facts remembers =
     let judged = c.in_err-judge_then_note.ensures in
     rw (p.1, p.2) (
       read.value q.day q.right facts
-          ∙ ap (followed c.in_ok-line.rest.now) (judged-by remembers c.args.number q.day q.right line read.sound.ranged judged.paired
+          ∙ ap (followed c.in_ok-line.rest.now) (judged_by_lem remembers c.args.number q.day q.right line read.sound.ranged judged.paired
           ∙ ap (showing line.certificate) (sym judged.value)),
       judged.names,
       judged.rights,
@@ -31,11 +31,11 @@ returns c facts remembers =
     let read = c.in_ok-line.ensures in
     let judged = c.in_ok-judge_then_note.ensures in
     let fact = fact_of line.certificate last in
-    let small = last-known (certificates_of c.args.registry.now) _ _ c.args.number q.day q.right line last read.sound (sym judged.value) in (
+    let small = last_known (certificates_of c.args.registry.now) _ _ c.args.number q.day q.right line last read.sound (sym judged.value) in (
       fact,
       read.value q.day q.right facts
-          ∙ ap (followed c.in_ok-line.rest.now) (judged-by remembers c.args.number q.day q.right line read.sound.ranged judged.paired
+          ∙ ap (followed c.in_ok-line.rest.now) (judged_by_lem remembers c.args.number q.day q.right line read.sound.ranged judged.paired
           ∙ ap (showing line.certificate) (sym judged.value)),
       rw (judged.names, judged.rights)
-          (remembers-more fact (sane-fact (certificates_of c.args.registry.now) line.certificate last read.sound small) remembers),
+          (remembers_more fact (sane_fact (certificates_of c.args.registry.now) line.certificate last read.sound small) remembers),
     )
