@@ -37,6 +37,8 @@ OTHERWISE = {
     "judged-by": "judged_by_lem",
     "keptFor": "lines_kept_for",
     "line-by": "line_by_lem",
+    "line-wanted": "line_wanted_lem",
+    "name-place": "name_place_lem",
     "newGate": "fresh_gate",
     "passDay": "day_passed",
     "readEvent": "event_read",

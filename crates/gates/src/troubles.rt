@@ -1,7 +1,10 @@
 // What keeps a gate from being made, or from answering.
 ghost use Rattle.gates.specs.Troubles.{text_of};
-ghost use Rattle.std.specs.Prelude.{Some};
+ghost use Rattle.gates.specs.declared.troubles.Trouble.TheVariants.{NoMemory, ShortMemory};
+ghost use Rattle.std.specs.Prelude.{◌≡◌, Some};
 
+use sheets::checking;
+use std::alloc::{AllocError, AllocFailed};
 use std::fmt;
 
 // Why there is no gate, or no answer.
@@ -13,6 +16,30 @@ pub enum Trouble {
     NoMemory,
     // the lent memory is too short
     ShortMemory,
+}
+
+impl From<AllocError> for Trouble {
+    ghost from_gives = { λ _ trouble. trouble ≡ NoMemory };
+
+    fn from(_error: AllocError) -> Trouble {
+        Trouble::NoMemory
+    }
+}
+
+impl<T: Drop> From<AllocFailed<T>> for Trouble {
+    ghost from_gives = { λ _ trouble. trouble ≡ NoMemory };
+
+    fn from(_refused: AllocFailed<T>) -> Trouble {
+        Trouble::NoMemory
+    }
+}
+
+impl From<checking::ShortMemory> for Trouble {
+    ghost from_gives = { λ _ trouble. trouble ≡ ShortMemory };
+
+    fn from(_short: checking::ShortMemory) -> Trouble {
+        Trouble::ShortMemory
+    }
 }
 
 impl fmt::Display for Trouble {

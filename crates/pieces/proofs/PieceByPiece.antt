@@ -5,7 +5,7 @@ use Rattle.promise.proofs.Readable.{rest_bytes}
 use Rattle.promise.proofs.Shorter.{shorter}
 use Rattle.promise.specs.States.{State, Taken as AfterEvent, take, first_taken, Delivered, noting, deliver_within, deliver}
 use Rattle.promise.specs.Happened.{read_on}
-use Rattle.pieces.specs.Pieces.{PieceTaken, left_length, stopped, ready}
+use Rattle.pieces.specs.Pieces.{PieceTaken, left_length, stopped, is_ready}
 use Rattle.promise.specs.Promise.{Bytes}
 use Rattle.promise.specs.Requests.{told}
 use Rattle.promise.specs.declared.answers.Answer.{Answer}
@@ -102,13 +102,13 @@ pub none_taken : (g : State) (answers : List Answer) (piece : List ℕ) (last : 
 none_taken g answers piece last small = record { small = small; fewer = omega arith; same = λ more small-more follows. refl }
 
 module _ (before g next : State) (noted : List Answer) (piece : List ℕ) (last : Bool) (answers : List Answer) (rest : List ℕ) (fault : Option Fault) (behind : List ℕ)
-    (so : SoFar before noted piece last g answers rest) (is-ready : ready rest last ≡ true)
+    (so : SoFar before noted piece last g answers rest) (go : is_ready rest last ≡ true)
     (taken : ((next, fault), behind) ≡ first_taken g (event_read rest)) (less : 0 < length rest → length behind < length rest) where
   some : 0 < length rest
-  some = omega (arith, eqb-false (length rest) 0 (not-true (eqb (length rest) 0) (and_parts (not (eqb (length rest) 0)) (last || leb 533 (length rest)) is-ready).0))
+  some = omega (arith, eqb-false (length rest) 0 (not-true (eqb (length rest) 0) (and_parts (not (eqb (length rest) 0)) (last || leb 533 (length rest)) go).0))
 
   enough : (533 ≤ length rest) ⊎ (last ≡ true)
-  enough = ⊎_elim inr (λ long. inl (leb-true 533 (length rest) long)) (or_cases last (leb 533 (length rest)) (and_parts (not (eqb (length rest) 0)) (last || leb 533 (length rest)) is-ready).1)
+  enough = ⊎_elim inr (λ long. inl (leb-true 533 (length rest) long)) (or_cases last (leb 533 (length rest)) (and_parts (not (eqb (length rest) 0)) (last || leb 533 (length rest)) go).1)
 
   -- the first event of what is left
   one_step : (more : List ℕ) → Bytes more → (last ≡ true → more ≡ []) →

@@ -1,5 +1,5 @@
 -- A delivery of events that is taken in pieces. Assumes nothing.
-use Rattle.std.specs.Prelude.{◌≡◌, ℕ, ◌≤◌, Bool, true, false, not, ◌&&◌, ◌||◌, ◌⊎◌, List, [], ◌∷◌, ◌++◌, length, Some, None, Option, ◌==◌, nat_le}
+use Rattle.std.specs.Prelude.{◌≡◌, ℕ, ◌<◌, ◌≤◌, Bool, true, false, not, ◌&&◌, ◌||◌, ◌⊎◌, List, [], ◌∷◌, ◌++◌, length, Some, None, Option, ◌==◌, nat_le}
 use Rattle.promise.specs.States.{State, deliver}
 use Rattle.promise.specs.Promise.{Bytes}
 use Rattle.promise.specs.Requests.{told, run}
@@ -23,13 +23,18 @@ stopped None = false
 stopped (Some fault) = stops fault
 
 -- an event can be read whatever follows the bytes: there are some, and nothing follows or they are enough for the longest event
-abbrev pub ready : List ℕ → Bool → Bool
-ready rest last = not (length rest == 0) && (last || nat_le 533 (length rest))
+abbrev pub is_ready : List ℕ → Bool → Bool
+is_ready rest last = not (length rest == 0) && (last || nat_le 533 (length rest))
+
+-- so what is left is not empty, and long enough or the last
+pub record Ready (rest : List ℕ) (last : Bool) : Type 0 where
+  pub some : 0 < length rest
+  pub long : (533 ≤ length rest) ⊎ (last ≡ true)
 
 -- a piece is left only where there is no room for another answer, or where no event can be read for certain
 abbrev pub LeftOver : ℕ → ℕ → Bool → Option (List ℕ) → Type 0
 LeftOver room held last None = Unit {0}
-LeftOver room held last (Some rest) = (room ≤ held) ⊎ (ready rest last ≡ false)
+LeftOver room held last (Some rest) = (room ≤ held) ⊎ (is_ready rest last ≡ false)
 
 abbrev pub left_length : Option (List ℕ) → ℕ
 left_length None = 0

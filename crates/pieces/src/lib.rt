@@ -1,10 +1,9 @@
 // Deliveries of events taken in pieces, so that memory is bounded whatever comes.
 #![tactic(auto)]
 
-ghost use Rattle.std.specs.Prelude.{◌≡◌, ◌+◌, ◌<◌, ◌≤◌, ◌++◌, map, length, vec_len, vec_capacity};
+ghost use Rattle.std.specs.Prelude.{◌≡◌, ◌+◌, ◌<◌, ◌≤◌, true, ◌++◌, map, length, vec_len, vec_capacity};
 ghost use Rattle.gates.specs.Gates.{state_of};
-ghost use Rattle.pieces.specs.Pieces as pieces;
-ghost use Rattle.pieces.specs.Pieces.{PieceTaken, LeftOver, left_length, stopped, KeptPiece};
+ghost use Rattle.pieces.specs.Pieces.{PieceTaken, Ready, is_ready, LeftOver, left_length, stopped, KeptPiece};
 ghost use Rattle.promise.specs.declared.answers.Answer.TheVariants.{Refused};
 ghost use Rattle.std.specs.Option.{option_map, option_to_list};
 
@@ -19,7 +18,8 @@ pub const LONGEST_EVENT: usize = 533;
 
 // Whether an event can be read whatever follows: the longest would fit, or nothing follows.
 fn ready(rest: &[u8], last: bool) -> bool
-    ensures { result ≡ pieces.ready rest.now last }
+    ensures value { result ≡ is_ready rest.now last }
+    ensures settled { result ≡ true → Ready rest.now last }
 {
     !rest.is_empty() && (last || rest.len() >= LONGEST_EVENT)
 }

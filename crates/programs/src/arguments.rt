@@ -17,7 +17,7 @@ pub(crate) struct Call {
 }
 
 // The house that an argument names.
-pub(crate) fn parse_house(text: &str) -> Option<u16>
+pub fn parse_house(text: &str) -> Option<u16>
     ensures { SomeIff result (HouseText text.now) (house_of text.now) }
 {
     let Ok(house) = text.parse::<u16>() else {

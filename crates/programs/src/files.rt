@@ -15,7 +15,7 @@ fn trouble(name: &str, error: io::Error) -> anyhow::Error {
 }
 
 // Opens a file, which is no folder. No contract speaks of files, so only a run shows that it is the one named.
-pub(crate) fn open_file(rt: &HostRuntime, name: &str) -> anyhow::Result<File> {
+pub fn open_file(rt: &HostRuntime, name: &str) -> anyhow::Result<File> {
     let found = match fs::metadata(rt, name) {
         Ok(found) => found,
         Err(error) => return Err(trouble(name, error)),
@@ -30,7 +30,7 @@ pub(crate) fn open_file(rt: &HostRuntime, name: &str) -> anyhow::Result<File> {
 }
 
 // Reads on behind the bytes that are there; false at the end of the file. Which bytes come, only a run shows.
-pub(crate) fn read_on(file: &mut File, name: &str, bytes: &mut Vec<u8>) -> anyhow::Result<bool>
+pub fn read_on(file: &mut File, name: &str, bytes: &mut Vec<u8>) -> anyhow::Result<bool>
     ensures { ReadOn bytes.old.items bytes.new.items result }
 {
     let mut piece = [0u8; PIECE];

@@ -1,9 +1,9 @@
 // What the programs share, and what each of them does.
 #![tactic(auto)]
 
-mod arguments;
+pub mod arguments;
 pub mod ending;
-mod files;
+pub mod files;
 pub mod find_program;
 pub mod gate_program;
 mod places;

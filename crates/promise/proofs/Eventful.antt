@@ -2,7 +2,7 @@
 use Rattle.std.proofs.Common.{◌≡◌, ℕ, zero, suc, Bool, true, false, cond, eqb, List, [], ◌∷◌, ◌++◌, length, Some, None, Ok, Err, Option, sym, refl, ap, ◌∙◌}
 use Rattle.promise.specs.States.{State, take, first_taken, Delivered, noting, deliver_within}
 use Rattle.promise.specs.Happened.{noted, read_on, events_within, events_of, happened}
-use Rattle.promise.specs.Requests.{receive, receive_all}
+use Rattle.promise.specs.Requests.{receive, after}
 use Rattle.promise.specs.declared.answers.Answer.{Answer}
 use Rattle.wire.specs.Reading.{Reading, event_read}
 use Rattle.wire.specs.declared.events.Event.{Event}
@@ -43,8 +43,8 @@ receive_events g (b ∷ s) = by_kind (eqb b 4) _ _ _ (within_events (length (b �
     by_kind true asked told events same = refl
     by_kind false asked told events same = same
 
-pub after_happened : (g : State) (ds : List (List ℕ)) → (receive_all g ds).0 ≡ after_events g (happened ds)
-unfolding receive_all after_events
+pub after_happened : (g : State) (ds : List (List ℕ)) → after g ds ≡ after_events g (happened ds)
+unfolding after after_events
 after_happened g [] = refl
 after_happened g (d ∷ ds) =
     after_happened (receive g d).0 ds ∙ (ap (λ s. after_events s (happened ds)) (receive_events g d) ∙ sym (after_both g (events_of d) (happened ds)))

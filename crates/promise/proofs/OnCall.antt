@@ -2,7 +2,7 @@
 use Rattle.std.proofs.Common.{◌≡◌, ℕ, ◌<◌, List, [], ◌∷◌, ◌++◌, IfOk, Ok, Err, Result, sym, refl, ap, ◌∙◌, subst, MatchResult}
 use Rattle.promise.proofs.Promised.{main}
 use Rattle.promise.specs.Promise.{Bytes, AllLetIn, KeptPromise, KeptAnswer, EachLetIn, KeptAll, request_bytes}
-use Rattle.promise.specs.Requests.{answer, receive, receive_all, run}
+use Rattle.promise.specs.Requests.{answer, receive, receive_all, after, run}
 use Rattle.promise.specs.States.{State}
 use Rattle.promise.specs.declared.answers.Answer.{Answer}
 use Rattle.promise.specs.declared.answers.Answer.TheVariants.{Open}
@@ -16,14 +16,20 @@ of_answer (Ok x) P Q R f p = f x p
 of_answer (Err e) P Q R f p = tt
 
 -- more deliveries at the end
-more_after : (g : State) (ds more : List (List ℕ)) → (receive_all g (ds ++ more)).0 ≡ (receive_all (receive_all g ds).0 more).0
-unfolding receive_all
+more_after : (g : State) (ds more : List (List ℕ)) → after g (ds ++ more) ≡ after (after g ds) more
+unfolding after
 more_after g [] more = refl
 more_after g (d ∷ ds) more = more_after (receive g d).0 ds more
 
-pub one_after : (g : State) (ds : List (List ℕ)) (d : List ℕ) → (receive_all g (ds ++ (d ∷ []))).0 ≡ (receive (receive_all g ds).0 d).0
-unfolding receive_all
+pub one_after : (g : State) (ds : List (List ℕ)) (d : List ℕ) → after g (ds ++ (d ∷ [])) ≡ (receive (after g ds) d).0
+unfolding after
 one_after g ds d = more_after g ds (d ∷ [])
+
+-- taking them all leaves the gate after them
+received_after : (g : State) (ds : List (List ℕ)) → (receive_all g ds).0 ≡ after g ds
+unfolding receive_all after
+received_after g [] = refl
+received_after g (d ∷ ds) = received_after (receive g d).0 ds
 
 every_kept : (owner : ℕ) → owner < 1024 → (ds : List (List ℕ)) → AllByRecursion Bytes ds → (g : State) → g ≡ run owner ds → AllLetIn owner ds g
 every_kept owner known ds all g from house right small small-right may =
@@ -62,7 +68,7 @@ each_kept owner known before (d ∷ ds) small-before small g from = (
 pub all_kept : (g : State) (ds : List (List ℕ)) (g' : State) (answers : List Answer) → g.owner < 1024 → AllByRecursion Bytes ds → (g', answers) ≡ receive_all g ds → KeptAll g ds g' answers
 all_kept g ds g' answers known small is =
     let goes : (before : List (List ℕ)) → g ≡ run g.owner before → g' ≡ run g.owner (before ++ ds)
-    = λ before from. ap (λ (p : State × List Answer). p.0) is ∙ (ap (λ (h : State). (receive_all h ds).0) from ∙ sym (more_after _ before ds)) in
+    = λ before from. ap (λ (p : State × List Answer). p.0) is ∙ (received_after g ds ∙ (ap (λ (h : State). after h ds) from ∙ sym (more_after _ before ds))) in
     record {
       goes_on = goes;
       only = λ before all from. subst (EachLetIn g.owner before ds) (sym (ap (λ (p : State × List Answer). p.1) is)) (each_kept g.owner known before ds all small g from);

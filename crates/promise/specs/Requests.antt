@@ -79,6 +79,11 @@ unfoldable pub left_by_all : State → List (List ℕ) → List ℕ → List ℕ
 left_by_all g [] memory = memory
 left_by_all g (d ∷ ds) memory = left_by_all (receive g d).0 ds (left_by_delivery g d memory)
 
+-- a gate after some deliveries
+unfoldable pub after : State → List (List ℕ) → State
+after g [] = g
+after g (d ∷ ds) = after (receive g d).0 ds
+
 -- a gate of the owner after some deliveries
 abbrev pub run : ℕ → List (List ℕ) → State
-run owner ds = (receive_all (fresh_gate owner) ds).0
+run owner ds = after (fresh_gate owner) ds

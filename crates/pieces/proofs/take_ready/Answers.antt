@@ -17,7 +17,7 @@ pub loop-gate-preserved : goal.loop-gate-preserved
 loop-gate-preserved c = (
   one_taken (state_of c.args.gate) (state_of c.loop-gate.gate) (state_of c.take_first-next.result.0) (vec_items c.args.answers.now) c.args.piece.now c.args.last
       (vec_items c.loop-gate.answers) c.loop-gate.rest.now c.take_first-next.result.1 c.take_first-next.result.2.now
-      c.loop-gate.invariant.0 (sym c.if-ready.ensures) c.take_first-next.ensures.value c.take_first-next.ensures.shorter
+      c.loop-gate.invariant.0 (sym c.if-ready.ensures.value) c.take_first-next.ensures.value c.take_first-next.ensures.shorter
       (vec_items c.note_within.new.answers) (sym c.if-note_within.ensures.value) c.note_within.ensures.items,
   c.note_within.ensures.room ∙ c.loop-gate.invariant.1,
 )
@@ -30,7 +30,7 @@ returns-then-note_within c =
     let after = vec_items c.note_within.new.answers in
     let piece = c.args.piece.now in
     let taken = reading_ends gate (state_of c.loop-gate.gate) next before piece c.args.last (vec_items c.loop-gate.answers) c.loop-gate.rest.now
-    c.take_first-next.result.1 c.take_first-next.result.2.now c.loop-gate.invariant.0 (sym c.if-ready.ensures) c.take_first-next.ensures.value
+    c.take_first-next.result.1 c.take_first-next.result.2.now c.loop-gate.invariant.0 (sym c.if-ready.ensures.value) c.take_first-next.ensures.value
     c.take_first-next.ensures.shorter after (All-from_get_or (λ b. b < 256) piece 0 (λ i h. (c.type_inv.piece i).fits)) (sym c.if-note_within.ensures.value) c.note_within.ensures.items in
     record {
       taken = taken.whole;
@@ -52,7 +52,7 @@ returns c =
     record {
       taken = taken.whole;
       until = elim c.loop-gate-test.branch [
-        | then-loop-gate-test+else-ready w ↦ inr (sym w.ready.ensures ∙ w.if-ready.false)
+        | then-loop-gate-test+else-ready w ↦ inr (sym w.ready.ensures.value ∙ w.if-ready.false)
         | else-loop-gate-test w ↦ inl (omega (arith, w.loop-gate-test.false, c.len.ensures, c.capacity.ensures, c.loop-gate.invariant.1))
       ];
       fewer = omega (arith, taken.fewer, c.loop-gate.answers.ok.0, c.args.answers.now.ok.0);

@@ -1,5 +1,5 @@
 use Rattle.std.proofs.Common.{refl}
-use Rattle.finding.proofs.Answering.{nothing_wanted, line_wanted}
+use Rattle.finding.proofs.Answering.{nothing_wanted, line_wanted_lem}
 use Rattle.finding.proofs.sheets_found.answer.Goals as goal
 use Rattle.finding.specs.declared.wanted.Wanted.TheVariants.{AtStart, ByLine}
 use Rattle.registry.specs.Numbered.{certificates_of}
@@ -14,12 +14,12 @@ returns-in-NotShown c names before long all small =
 pub returns-in-AtStart : goal.returns-in-AtStart
 returns-in-AtStart c names before long all small =
     let cs = certificates_of c.args.registry.now in
-    line_wanted cs c.args.question.now (range_covers cs c.args.registry.now.sound) small long all c.as_slice.ensures.value AtStart c.in-AtStart.ensures
+    line_wanted_lem cs c.args.question.now (range_covers cs c.args.registry.now.sound) small long all c.as_slice.ensures.value AtStart c.in-AtStart.ensures
     (λ e. impossible (cc)) c.args.request.now c.write_wanted.new.request c.write_wanted.result c.told.result c.write_wanted.ensures c.told.ensures
 
 pub returns-in-ByLine : goal.returns-in-ByLine
 returns-in-ByLine c names before long all small =
     let cs = certificates_of c.args.registry.now in
-    line_wanted cs c.args.question.now (range_covers cs c.args.registry.now.sound) small long all c.as_slice.ensures.value (ByLine c.in-ByLine.line) c.in-ByLine.ensures
+    line_wanted_lem cs c.args.question.now (range_covers cs c.args.registry.now.sound) small long all c.as_slice.ensures.value (ByLine c.in-ByLine.line) c.in-ByLine.ensures
     (λ e. impossible (cc)) c.args.request.now c.write_wanted-in-ByLine.new.request c.write_wanted-in-ByLine.result c.told-in-ByLine.result
     c.write_wanted-in-ByLine.ensures c.told-in-ByLine.ensures
