@@ -38,6 +38,11 @@ OTHERWISE = {
     "keptFor": "lines_kept_for",
     "line-by": "line_by_lem",
     "line-wanted": "line_wanted_lem",
+    "markAbove": "marks_above",
+    "markIssuer": "issuer_marked",
+    "markNeeded": "marks_needed",
+    "markWanted": "wanted_marked",
+    "markedBytes": "bytes_of_marked",
     "name-place": "name_place_lem",
     "newGate": "fresh_gate",
     "passDay": "day_passed",
@@ -49,6 +54,7 @@ OTHERWISE = {
     "skipLine": "line_skipped",
     "skipLines": "lines_skipped",
     "someRight": "has_some_right",
+    "stepTo": "step_toward",
     "takeFirst": "first_taken",
     "then": "and_then",
     "walk-by": "walk_by_lem",
@@ -62,6 +68,11 @@ def spelled(name):
     if name[0].isupper():
         return "".join(part[:1].upper() + part[1:] for part in name.split("-"))
     return re.sub(r"(?<=[a-z0-9_])[A-Z]", lambda m: "_" + m[0].lower(), name.replace("-", "_")).replace("__", "_")
+
+
+def is_plain(name):
+    """Whether the name is an English word too."""
+    return name.isalpha() and name.islower()
 
 
 def is_turned(name):
@@ -95,8 +106,15 @@ def without_another_name(text):
 
 
 def turn(text, names):
+    """The text with the names turned; a plain word stays in comments, and behind an `if`."""
+    if not names:
+        return text
     one = "|".join(re.escape(name) for name in sorted(names, key=len, reverse=True))
-    return re.sub(rf"(?<![\w'-])(?:{one})(?![\w'-])", lambda m: spelled(m[0]), text) if names else text
+    stays = r"--[^\n]*|//[^\n]*|\bif\b[^\n]*?\bthen\b"
+    whole = re.compile(rf"(?<![\w'-])(?:{one})(?![\w'-])")
+    turned = lambda m: m[0] if is_plain(m[0]) else spelled(m[0])
+    parts = re.split(f"({stays})", text)
+    return "".join(whole.sub(turned if i % 2 else lambda m: spelled(m[0]), part) for i, part in enumerate(parts))
 
 
 def main():
@@ -109,7 +127,7 @@ def main():
         here = names & brought if MADE.search(path) else names
         # A plain word may stand for something else where it is neither declared nor brought in.
         known = brought | set(DECLARED.findall(text))
-        here = {name for name in here if name in known or not (name.isalpha() and name.islower())}
+        here = {name for name in here if name in known or not is_plain(name)}
         new = without_another_name(turn(text, here))
         if new == text:
             continue
