@@ -102,7 +102,9 @@ def without_another_name(text):
     """`rt ci` refuses a word of std under the name of another: it is written by its own."""
     if "AllByRecursion as All" not in text:
         return text
-    return re.sub(r"(?<![\w'.-])All(?![\w'-])", "AllByRecursion", text.replace("AllByRecursion as All", "AllByRecursion"))
+    parts = re.split(r"(--[^\n]*)", text.replace("AllByRecursion as All", "AllByRecursion"))
+    parts[::2] = [re.sub(r"(?<![\w'.-])All(?![\w'-])", "AllByRecursion", part) for part in parts[::2]]
+    return "".join(parts)
 
 
 def turn(text, names):

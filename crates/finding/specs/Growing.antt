@@ -31,7 +31,7 @@ unsearched_of troubles.WrongSize = WrongSize
 unsearched_of troubles.OutOfRange = OutOfRange
 
 module _ (cs : List Certificate) (q : Question) where
-  -- AllByRecursion lines were found, with a mark for each that there can be; or there is a reason why not, and lent memory is as it was.
+  -- All lines were found, with a mark for each that there can be; or there is a reason why not, and lent memory is as it was.
   abbrev pub Searched : List ℕ → List ℕ → List ℕ → List ℕ → Result AllLines Unfound → Type 0
   Searched names numbers names' numbers' (Ok s) =
       Ready q names numbers

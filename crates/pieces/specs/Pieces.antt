@@ -22,14 +22,14 @@ abbrev pub stopped : Option Fault → Bool
 stopped None = false
 stopped (Some fault) = stops fault
 
--- an event can be read whatever follows the bytes: there are some, and nothing follows or they are enough for the longest event
-abbrev pub is_ready : List ℕ → Bool → Bool
-is_ready rest last = not (length rest == 0) && (last || nat_le 533 (length rest))
-
--- so what is left is not empty, and long enough or the last
+-- an event can be read whatever follows the bytes: there are some, and enough for the longest event, or nothing follows
 pub record Ready (rest : List ℕ) (last : Bool) : Type 0 where
   pub some : 0 < length rest
   pub long : (533 ≤ length rest) ⊎ (last ≡ true)
+
+-- the test of that
+abbrev pub is_ready : List ℕ → Bool → Bool
+is_ready rest last = not (length rest == 0) && (last || nat_le 533 (length rest))
 
 -- a piece is left only where there is no room for another answer, or where no event can be read for certain
 abbrev pub LeftOver : ℕ → ℕ → Bool → Option (List ℕ) → Type 0

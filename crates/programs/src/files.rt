@@ -41,3 +41,18 @@ pub fn read_on(file: &mut File, name: &str, bytes: &mut Vec<u8>) -> anyhow::Resu
     bytes.extend_from_slice(&piece[0..count])?;
     Ok(count > 0)
 }
+
+// Reads on to the end of the file, or until there are more bytes than `longest`: enough to see that it is longer.
+pub(crate) fn read_past(
+    file: &mut File,
+    name: &str,
+    bytes: &mut Vec<u8>,
+    longest: usize,
+) -> anyhow::Result<()> {
+    for _ in 0..=longest {
+        if bytes.len() > longest || !read_on(file, name, bytes)? {
+            break;
+        }
+    }
+    Ok(())
+}

@@ -1,6 +1,6 @@
 // The program `gate`: takes each file as a delivery, and prints what the gate answers, one answer to a line.
 use crate::arguments::read_call;
-use crate::files::{open_file, read_on};
+use crate::files::{open_file, read_on, read_past};
 use crate::taking::{Telling, new_gate, open_all, take_events};
 use anyhow::anyhow;
 use gates::Gate;
@@ -18,11 +18,7 @@ fn answer_request(
     mut file: File,
     mut bytes: Vec<u8>,
 ) -> anyhow::Result<()> {
-    for _ in 0..=LONGEST_REQUEST {
-        if bytes.len() > LONGEST_REQUEST || !read_on(&mut file, name, &mut bytes)? {
-            break;
-        }
-    }
+    read_past(&mut file, name, &mut bytes, LONGEST_REQUEST)?;
     match gate.answer(bytes.as_slice(), memory) {
         Ok(answer) => println!(rt; "{answer}")?,
         Err(_) => return Err(anyhow!("the lent memory is too short")),

@@ -1,6 +1,6 @@
 // Requests without lines, as the last of a program's files.
 use crate::arguments::{Call, read_call};
-use crate::files::{open_file, read_on};
+use crate::files::{open_file, read_past};
 use crate::taking::{new_gate, open_all, take_file};
 use anyhow::anyhow;
 use finding::sheets_found::Unfound;
@@ -10,6 +10,8 @@ use sheets::checking::MEMORY_WORDS;
 
 // The bytes of a request without lines; more of a file are not read than show that it has more.
 const REQUEST_BYTES: usize = 8;
+
+const USAGE: &str = "OWNER FILE... REQUEST";
 
 // A gate that took all deliveries, the request that follows them, and memory for finding.
 #[derive(Drop)]
@@ -24,18 +26,14 @@ pub(crate) struct Inquiry {
 fn read_request(rt: &HostRuntime, name: &str) -> anyhow::Result<Vec<u8>> {
     let mut file = open_file(rt, name)?;
     let mut bytes = Vec::new(rt.alloc());
-    for _ in 0..=REQUEST_BYTES {
-        if bytes.len() > REQUEST_BYTES || !read_on(&mut file, name, &mut bytes)? {
-            break;
-        }
-    }
+    read_past(&mut file, name, &mut bytes, REQUEST_BYTES)?;
     Ok(bytes)
 }
 
 // Takes the deliveries, and reads the request.
 fn take_files(rt: &HostRuntime, call: &Call, name: &str) -> anyhow::Result<Inquiry> {
     let [deliveries @ .., last] = call.files.as_slice() else {
-        return Err(anyhow!("usage: {name} OWNER FILE... REQUEST"));
+        return Err(anyhow!("usage: {name} {USAGE}"));
     };
     open_all(rt, call.files.as_slice())?;
     let mut gate = new_gate(rt, call.owner)?;
@@ -55,7 +53,7 @@ fn take_files(rt: &HostRuntime, call: &Call, name: &str) -> anyhow::Result<Inqui
 
 // What a program is asked; none where only its usage or version was asked for.
 pub(crate) fn read_inquiry(rt: &HostRuntime, name: &str) -> anyhow::Result<Option<Inquiry>> {
-    let Some(call) = read_call(rt, name, "OWNER FILE... REQUEST")? else {
+    let Some(call) = read_call(rt, name, USAGE)? else {
         return Ok(None);
     };
     Ok(Some(take_files(rt, &call, name)?))

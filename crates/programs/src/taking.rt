@@ -10,7 +10,7 @@ use std::fs::File;
 use std::mem;
 
 // Where refused events are told.
-#[derive(Clone, Copy, PartialEq, Eq)]
+#[derive(Clone, Copy)]
 pub(crate) enum Telling {
     // on standard output, by their number
     Answers,

@@ -1,4 +1,4 @@
--- AllByRecursion events that deliveries hold can be written: their certificates are well formed. Assumes nothing.
+-- All events that deliveries hold can be written: their certificates are well formed. Assumes nothing.
 use Rattle.std.proofs.Common.{ℕ, zero, suc, eqb, List, [], ◌∷◌, length, Ok, Err, refl, ap, inl, inr}
 use Rattle.promise.specs.Happened.{noted, read_on, events_within, events_of, happened}
 use Rattle.promise.specs.Promise.{Bytes}

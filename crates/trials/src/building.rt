@@ -1,9 +1,13 @@
-// Certificates and questions of the tests, in few words.
+// What the tests ask with: certificates, questions, a gate and deliveries, in few words.
 use certificates::{Certificate, Statement, Subject};
+use gates::Gate;
 use registry::Registry;
 use sheets::checking::Question;
 use std::alloc::Global;
 use std::test::*;
+
+// The line numbers that are lent: one for each of 1,024 rows and houses.
+pub(crate) const NUMBERS: usize = 1048576;
 
 // Fails with the note where the fact does not hold.
 pub(crate) fn check(holds: bool, note: &str) -> Result<(), Fail> {
@@ -87,4 +91,21 @@ pub(crate) fn asked(owner: u16, right: u8, house: u16) -> Question {
 
 pub(crate) fn may(house: u16) -> Question {
     asked(1, 3, house)
+}
+
+// The gate of house 1, as it begins.
+pub(crate) fn new_gate(heap: Global) -> Result<Gate, Fail> {
+    match Gate::new(heap, 1) {
+        Ok(gate) => Ok(gate),
+        Err(_) => Err(Fail::new("no gate")),
+    }
+}
+
+// Deliveries as they come from files.
+pub(crate) fn listed(heap: Global, deliveries: &[&[u8]]) -> Result<Vec<Vec<u8>>, Fail> {
+    let mut list = Vec::new(heap);
+    for bytes in deliveries {
+        list.push(Vec::from_slice(heap, bytes)?)?;
+    }
+    Ok(list)
 }

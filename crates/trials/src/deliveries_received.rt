@@ -1,6 +1,6 @@
 // Deliveries taken together.
+use crate::building::{listed, new_gate};
 use deliveries::receiving::receive_all;
-use gates::Gate;
 use promise::answers::Answer;
 use sheets::checking::MEMORY_WORDS;
 use std::alloc::Global;
@@ -15,13 +15,6 @@ const DAY: &[u8] = b"\x03";
 // House 2 asks for right 3.
 const REQUEST: &[u8] = b"\x04\x00\x02\x03\x00\x00\x00\x02\x00\x00\x00\x01\x00\x02";
 
-fn new_gate(heap: Global) -> Result<Gate, Fail> {
-    match Gate::new(heap, 1) {
-        Ok(gate) => Ok(gate),
-        Err(_) => Err(Fail::new("no gate")),
-    }
-}
-
 fn tell(text: &mut String, answers: &[Answer]) -> Result<(), Fail> {
     for answer in answers {
         writeln!(text, "{answer}")?;
@@ -34,15 +27,6 @@ fn told(heap: Global, answers: &[Answer]) -> Result<String, Fail> {
     let mut text = String::new(heap);
     tell(&mut text, answers)?;
     Ok(text)
-}
-
-// Deliveries as they come from files.
-fn listed(heap: Global, deliveries: &[&[u8]]) -> Result<Vec<Vec<u8>>, Fail> {
-    let mut list = Vec::new(heap);
-    for bytes in deliveries {
-        list.push(Vec::from_slice(heap, bytes)?)?;
-    }
-    Ok(list)
 }
 
 // What a new gate of house 1 answers to some deliveries.

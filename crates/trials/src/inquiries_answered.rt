@@ -1,5 +1,5 @@
 // Requests without lines, asked at a gate that took some deliveries: the days that are told, and the sheet that opens the gate.
-use crate::building::check;
+use crate::building::{NUMBERS, check, listed, new_gate};
 use deliveries::receiving::receive_all;
 use finding::sheets_found::Unfound;
 use gates::Gate;
@@ -8,8 +8,6 @@ use inquiries::sheet::sheet_for;
 use sheets::checking::MEMORY_WORDS;
 use std::alloc::Global;
 use std::test::*;
-
-const NUMBERS: usize = 1048576;
 
 // House 1 gives right 3 to house 2 on days 4 to 9, then on days 10 to 12.
 const TOUCHING: &[u8] =
@@ -31,15 +29,6 @@ const BY_2: &[u8] = b"\x04\x00\x02\x03\x00\x00\x00\x00";
 
 const BY_3: &[u8] = b"\x04\x00\x03\x03\x00\x00\x00\x00";
 
-// Deliveries as they come from files.
-fn listed(heap: Global, deliveries: &[&[u8]]) -> Result<Vec<Vec<u8>>, Fail> {
-    let mut list = Vec::new(heap);
-    for bytes in deliveries {
-        list.push(Vec::from_slice(heap, bytes)?)?;
-    }
-    Ok(list)
-}
-
 // The gate of house 1 after some deliveries, and memory for finding.
 #[derive(Drop)]
 struct Asked {
@@ -51,9 +40,7 @@ struct Asked {
 
 impl Asked {
     fn after(heap: Global, deliveries: &[&[u8]]) -> Result<Asked, Fail> {
-        let Ok(gate) = Gate::new(heap, 1) else {
-            return Err(Fail::new("no gate"));
-        };
+        let gate = new_gate(heap)?;
         let list = listed(heap, deliveries)?;
         let mut names = vec![in heap; u64::MAX; MEMORY_WORDS]?;
         let name_lines = vec![in heap; u32::MAX; NUMBERS]?;

@@ -1,6 +1,6 @@
 // Sheets that are found: the request is written as the bytes that are written out by hand, and its sheet holds.
 use crate::building::{
-    asked, by, by_two, check, gives, gives_only, may, names, plain, registry_of,
+    NUMBERS, asked, by, by_two, check, gives, gives_only, may, names, plain, registry_of,
 };
 use certificates::Certificate;
 use finding::sheets_found::{Unfound, find};
@@ -10,9 +10,6 @@ use sheets::checking::{MEMORY_WORDS, Question};
 use std::alloc::Global;
 use std::process::Abort;
 use std::test::*;
-
-// The line numbers that are lent: one for each of 1,024 rows and houses.
-const NUMBERS: usize = 1048576;
 
 // The bytes that a request is lent, and what stands where nothing is written.
 const ROOM: usize = 48;
