@@ -2,7 +2,7 @@
 #![tactic(auto)]
 
 ghost use Rattle.std.specs.Prelude.{◌≡◌, ℕ, Bool, Decides};
-ghost use Rattle.certificates.specs.Certificates.{in_range, valid, Valid, gives, Gives, revoked_of};
+ghost use Rattle.certificates.specs.Certificates.{names_of, in_range, valid, Valid, gives, Gives, revoked_of};
 
 pub mod laws;
 pub mod rights;
@@ -14,16 +14,25 @@ pub const LAST_HOUSE: u16 = 1023;
 pub const MOST_NAMES: usize = 6;
 
 // Whom a certificate speaks of: a house, or whoever is reached from it by following its names one after the other.
-#[derive(Clone, Copy)]
+#[derive(Clone, Copy, Debug, PartialEq, Eq)]
 pub struct Subject {
     pub house: u16,
-    // the names in front, zero behind them
+    // The names in front, zero behind them. An array with its count and not a `Vec`: a certificate is copied without memory being asked for.
     pub names: [u16; MOST_NAMES],
     pub count: u8,
 }
 
-// What the issuer says of the subject.
-#[derive(Clone, Copy)]
+impl Subject {
+    // Its names, without the zeros behind them.
+    pub fn names(&self) -> &[u16]
+        ensures { result.now ≡ names_of self.now }
+    {
+        &self.names[..usize::from(self.count).min(MOST_NAMES)]
+    }
+}
+
+// What the issuer says of the subject. A flag tells rights that may be passed on, and no third case: a rule of the project.
+#[derive(Clone, Copy, Debug, PartialEq, Eq)]
 pub enum Statement {
     // this name of the issuer stands for the subject
     Name(u16),
@@ -32,7 +41,7 @@ pub enum Statement {
 }
 
 // Valid from the first day to the last, both included; never if the last lies before the first.
-#[derive(Clone, Copy)]
+#[derive(Clone, Copy, Debug, PartialEq, Eq)]
 pub struct Certificate {
     pub issuer: u16,
     pub subject: Subject,
@@ -75,7 +84,7 @@ impl Certificate {
         }
     }
 
-    // The certificate once it is taken back: the same statement, valid on no day.
+    // The certificate once it is taken back: the same statement, valid on no day. Day 1 to day 0 and no flag: validity stays one test on two days.
     pub fn revoked(self) -> Certificate
         ensures value { result ≡ revoked_of self }
         ensures never { (day : ℕ) → Valid day result → ⊥ }

@@ -1,2 +1,3 @@
 pub mod Deliveries
 pub mod InOrder
+pub mod Kept

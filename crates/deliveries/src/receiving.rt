@@ -1,4 +1,4 @@
-// Deliveries taken whole.
+// Deliveries taken whole. A gate goes through by value, and memory for the check of a sheet is lent beside it.
 ghost use Rattle.deliveries.specs.Lists.{bytes_of, Stopped};
 ghost use Rattle.gates.specs.Gates.{state_of, Unanswered};
 ghost use Rattle.gates.specs.declared.troubles.Trouble.TheVariants.{NoMemory};
@@ -16,15 +16,12 @@ use promise::heads::REQUEST;
 use std::alloc::Global;
 use wire::faults::Fault;
 
-// Adds the answer to an event, where it is refused.
+// Adds the answer to an event, where it is refused. Unlike `note_within` of pieces it may allocate.
 fn note(fault: Option<Fault>, answers: &mut Vec<Answer>) -> Result<(), Trouble>
     ensures { MatchResult result (λ _. answers.new.items ≡ answers.old.items ++ map Refused (option_to_list fault)) (λ t. t ≡ NoMemory) }
 {
-    let Some(fault) = fault else {
-        return Ok(());
-    };
-    if answers.push(Answer::Refused(fault)).is_err() {
-        return Err(Trouble::NoMemory);
+    if let Some(fault) = fault {
+        answers.push(Answer::Refused(fault))?;
     }
     Ok(())
 }
@@ -54,37 +51,14 @@ fn take_request(
     ensures value { MatchResult result (λ _. answers.new.items ≡ answers.old.items ++ (answer (state_of gate.now) bytes.now ∷ [])) (λ t. Unanswered t (length memory.old)) }
     ensures memory { MatchResult result (λ _. memory.new ≡ left_by (state_of gate.now) bytes.now memory.old) (λ _. memory.new ≡ memory.old) }
 {
-    if answers.reserve(1).is_err() {
-        return Err(Trouble::NoMemory);
-    }
-    let Ok(answer) = gate.answer(bytes, memory) else {
-        return Err(Trouble::ShortMemory);
-    };
-    answers.push_reserved(answer);
+    answers.reserve(1)?;
+    answers.push_reserved(gate.answer(bytes, memory)?);
     Ok(())
 }
 
 // Takes a delivery, which is a request if its first byte is 4, and adds its answers in their order.
-fn take_by_kind(
-    gate: Gate,
-    bytes: &[u8],
-    memory: &mut [u64],
-    answers: &mut Vec<Answer>,
-) -> Result<Gate, Trouble>
-    ensures value { MatchResult result (λ g. (state_of g, answers.new.items) ≡ onto answers.old.items (receive (state_of gate) bytes.now)) (λ t. Unanswered t (length memory.old)) }
-    ensures memory { MatchResult result (λ _. memory.new ≡ left_by_delivery (state_of gate) bytes.now memory.old) (λ _. memory.new ≡ memory.old) }
-{
-    let Some(kind) = bytes.first() else {
-        return Ok(gate);
-    };
-    if *kind == REQUEST {
-        take_request(&gate, bytes, memory, answers)?;
-        return Ok(gate);
-    }
-    take_all(gate, bytes, answers)
-}
-
-// Takes a delivery, and adds its answers; that it is a list of bytes is what the promise asks of it.
+// That it is a list of bytes is what the promise asks of it.
+#[tactic(auto, using(wire::proofs::Exact::bytes_of_slice))]
 fn take_delivery(
     gate: Gate,
     bytes: &[u8],
@@ -95,11 +69,19 @@ fn take_delivery(
     ensures memory { MatchResult result (λ _. memory.new ≡ left_by_delivery (state_of gate) bytes.now memory.old) (λ _. memory.new ≡ memory.old) }
     ensures bytes { Bytes bytes.now }
 {
-    take_by_kind(gate, bytes, memory, answers)
+    match bytes {
+        [] => Ok(gate),
+        [REQUEST, ..] => {
+            take_request(&gate, bytes, memory, answers)?;
+            Ok(gate)
+        }
+        [..] => take_all(gate, bytes, answers),
+    }
 }
 
-// Takes a delivery: the gate after it, and its answers in their order. What is promised follows from which they are.
-fn receive_kept(
+// Takes a delivery: the gate after it, and its answers in their order. It keeps what is promised of all deliveries so far.
+#[tactic(auto, using(crate::proofs::Kept::delivery_kept))]
+pub fn receive(
     gate: Gate,
     heap: Global,
     bytes: &[u8],
@@ -114,21 +96,9 @@ fn receive_kept(
     Ok((gate, answers))
 }
 
-// Takes a delivery, and keeps what is promised of all deliveries so far.
-pub fn receive(
-    gate: Gate,
-    heap: Global,
-    bytes: &[u8],
-    memory: &mut [u64],
-) -> Result<(Gate, Vec<Answer>), Trouble>
-    ensures value { MatchResult result (λ p. (state_of p.0, p.1.items) ≡ receive (state_of gate) bytes.now) (λ t. Unanswered t (length memory.old)) }
-    ensures memory { MatchResult result (λ _. memory.new ≡ left_by_delivery (state_of gate) bytes.now memory.old) (λ _. memory.new ≡ memory.old) }
-    ensures promised { IfOk result (λ p. KeptPromise (state_of gate) bytes.now (state_of p.0) p.1.items) }
-{
-    receive_kept(gate, heap, bytes, memory)
-}
-
 // Takes some deliveries, one after the other: the gate after them, and all answers in their order.
+// Apart from `receive_all`: the loop is proved by hand over this slice, so an edit of the slice would be refused in a proof
+// file, and not in a line of the code.
 fn receive_each(
     gate: Gate,
     heap: Global,

@@ -1,10 +1,7 @@
 pub mod Lawful
 pub mod Cases
 pub mod Traced
-pub mod Behind
 pub mod Answering
 pub mod Worthy
 pub mod Opening
 pub mod Deciding
-pub mod Grown
-pub mod Sheeted

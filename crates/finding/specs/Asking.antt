@@ -1,27 +1,26 @@
 -- What finding answers, what it writes into a request, and what it leaves in lent memory. Assumes nothing.
-use Rattle.std.specs.Prelude.{◌≡◌, ℕ, ◌+◌, ◌<◌, ◌≤◌, true, false, cond, List, [], ◌∷◌, ◌++◌, length, take, drop, replicate, Some, None, Ok, Err, Option, Result, ◌==◌}
+use Rattle.std.specs.Prelude.{◌≡◌, ℕ, ◌+◌, ◌<◌, ◌≤◌, true, false, cond, List, [], ◌∷◌, ◌++◌, length, take, drop, replicate, Some, None, Ok, Err, Option, Result, vec_items, ◌==◌}
 use Rattle.certificates.specs.declared.Certificate.{Certificate}
 use Rattle.finding.specs.Finding.{find_sheet}
+use Rattle.finding.specs.declared.kept_lines.KeptLines.{KeptLines}
 use Rattle.finding.specs.declared.sheets_found.Unfound.{Unfound}
 use Rattle.finding.specs.declared.sheets_found.Unfound.TheVariants.{NoSheet, TooShort, Malformed, OutOfRange, NoMemory, WrongSize}
 use Rattle.round_lines.specs.Lines.{right_size}
 use Rattle.keeping.specs.Marking.{marks_needed}
 use Rattle.keeping.specs.Marks.{picked}
-use Rattle.promise.specs.Requests.{take_head}
+use Rattle.promise.specs.Requests.{question_of, take_head}
 use Rattle.promise.specs.declared.heads.Head.{Head}
 use Rattle.rounds.specs.Numbers.{name_numbers}
 use Rattle.rounds.specs.Rounds.{written, shown_at_end}
-use Rattle.sheet_bytes.specs.declared.TooShort.{TooShort as ShortRequest}
+use Rattle.round_lines.specs.declared.lines.Trouble.{Trouble}
+use Rattle.round_lines.specs.declared.lines.Trouble.TheVariants as troubles
 use Rattle.sheets.specs.Bytes.{bytes_of_sheet}
 use Rattle.sheets.specs.Memory.{names_table}
 use Rattle.sheets.specs.Passing.{askable}
 use Rattle.sheets.specs.Sheets.{Line}
 use Rattle.sheets.specs.declared.checking.Question.{Question}
+use Rattle.turns.specs.Found.{lines_found}
 use Rattle.wire.specs.Numbers.{Taken, bytes}
-
--- what a request asks at an owner's gate on a day
-abbrev pub question_of : ℕ → ℕ → Head → Question
-question_of day owner head = record { day = day; owner = owner; right = head.right; house = head.house }
 
 -- the head of a request, whose first byte is 4
 abbrev pub head_of : List ℕ → Taken Head
@@ -40,18 +39,19 @@ request_length lines = 8 + length (bytes_of_sheet lines)
 abbrev pub with_sheet : List ℕ → List Line → List ℕ
 with_sheet request lines = take 4 request ++ (bytes 4 (length lines) ++ (bytes_of_sheet lines ++ drop (request_length lines) request))
 
--- lines are written behind the head, or the request is too short for them and stays as it was
-abbrev pub SheetWritten : List Line → List ℕ → List ℕ → Result ℕ ShortRequest → Type 0
-SheetWritten lines request request' (Ok long) = (long ≡ request_length lines) × (long ≤ length request) × (request' ≡ with_sheet request lines)
-SheetWritten lines request request' (Err short) = (short.needed ≡ request_length lines) × (length request < short.needed) × (request' ≡ request)
-
 -- the lines that are marked as those on which a wanted line rests
 abbrev pub kept_by : List Certificate → ℕ → List Line → Option ℕ → List ℕ → List ℕ → List Line
 kept_by cs owner lines wanted names rights = picked (marks_needed cs owner lines wanted names rights (length lines)) lines
 
-abbrev pub told_of : Result ℕ ShortRequest → Result ℕ Unfound
-told_of (Ok long) = Ok long
-told_of (Err short) = Err (TooShort short.needed)
+-- those of the found lines that are marked
+abbrev pub lines_of_kept : List Certificate → KeptLines → List Line
+lines_of_kept cs kept = picked (vec_items kept.marks) (lines_found cs (vec_items kept.found))
+
+-- the same reason
+abbrev pub unsearched_of : Trouble → Unfound
+unsearched_of troubles.NoMemory = NoMemory
+unsearched_of troubles.WrongSize = WrongSize
+unsearched_of troubles.OutOfRange = OutOfRange
 
 module _ (cs : List Certificate) (q : Question) where
   -- a sheet was found and written behind the head
@@ -79,15 +79,25 @@ module _ (cs : List Certificate) (q : Question) where
     pub names_same : names' ≡ names
     pub numbers_same : name_lines' ≡ name_lines
 
-  -- what is answered once all lines were found
-  abbrev pub RequestAnswered : List ℕ → List ℕ → Result ℕ Unfound → Type 0
-  RequestAnswered request request' (Ok long) = Written request request' long
-  RequestAnswered request request' (Err NoSheet) = (sheet_for cs q ≡ None) × (request' ≡ request)
-  RequestAnswered request request' (Err (TooShort needed)) = NoRoom request needed × (request' ≡ request)
-  RequestAnswered request request' (Err Malformed) = ⊥
-  RequestAnswered request request' (Err OutOfRange) = ⊥
-  RequestAnswered request request' (Err NoMemory) = ⊥
-  RequestAnswered request request' (Err WrongSize) = ⊥
+  -- Why no lines were looked for; the lent memory is as it was.
+  abbrev pub Unsought : List ℕ → List ℕ → List ℕ → List ℕ → Unfound → Type 0
+  Unsought names numbers names' numbers' NoSheet = ⊥
+  Unsought names numbers names' numbers' (TooShort needed) = ⊥
+  Unsought names numbers names' numbers' Malformed = ⊥
+  Unsought names numbers names' numbers' OutOfRange = (askable q ≡ false) × Untouched names numbers names' numbers'
+  Unsought names numbers names' numbers' NoMemory = Untouched names numbers names' numbers'
+  Unsought names numbers names' numbers' WrongSize = (right_size names numbers ≡ false) × Untouched names numbers names' numbers'
+
+  -- The lines of the sheet are kept, or there is a reason why not; memory is filled, or is as it was.
+  abbrev pub LinesKept : List ℕ → List ℕ → List ℕ → List ℕ → Result KeptLines Unfound → Type 0
+  LinesKept names numbers names' numbers' (Ok kept) =
+      (askable q ≡ true) × (sheet_for cs q ≡ Some (lines_of_kept cs kept)) × Filled names numbers names' numbers'
+  LinesKept names numbers names' numbers' (Err NoSheet) = (sheet_for cs q ≡ None) × Filled names numbers names' numbers'
+  LinesKept names numbers names' numbers' (Err (TooShort needed)) = ⊥
+  LinesKept names numbers names' numbers' (Err Malformed) = ⊥
+  LinesKept names numbers names' numbers' (Err OutOfRange) = (askable q ≡ false) × Untouched names numbers names' numbers'
+  LinesKept names numbers names' numbers' (Err NoMemory) = Untouched names numbers names' numbers'
+  LinesKept names numbers names' numbers' (Err WrongSize) = (right_size names numbers ≡ false) × Untouched names numbers names' numbers'
 
   -- Each answer with its reason; where no sheet is written the request is as it was.
   abbrev pub Answered : List ℕ → List ℕ → List ℕ → List ℕ → List ℕ → List ℕ → Result ℕ Unfound → Type 0

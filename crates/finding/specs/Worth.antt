@@ -1,19 +1,27 @@
 -- What the answers of finding are worth: by the meaning of the certificates, and at a gate. Assumes nothing.
-use Rattle.std.specs.Prelude.{◌≡◌, ℕ, List, [], ◌∷◌, take, Some, None, Ok, Err, Option, Result}
+use Rattle.std.specs.Prelude.{◌≡◌, ℕ, ◌*◌, ◌≤◌, true, false, List, [], ◌∷◌, length, take, Some, None, Ok, Err, Option, Result, is_some, vec_items}
 use Rattle.certificates.specs.Certificates.{WellFormed}
 use Rattle.certificates.specs.Meaning.{May}
 use Rattle.certificates.specs.declared.Certificate.{Certificate}
-use Rattle.finding.specs.Asking.{question_of, sheet_for}
+use Rattle.finding.specs.Asking.{head_of, sheet_for, kept_by, lines_of_kept, Filled, Unsought}
+use Rattle.finding.specs.Wanted.{line_of_wanted}
+use Rattle.finding.specs.declared.kept_lines.KeptLines.{KeptLines}
+use Rattle.promise.specs.Requests.{question_of, receive}
 use Rattle.finding.specs.declared.sheets_found.Unfound.{Unfound}
 use Rattle.finding.specs.declared.sheets_found.Unfound.TheVariants.{NoSheet, TooShort, Malformed, OutOfRange, NoMemory, WrongSize}
-use Rattle.promise.specs.Promise.{request_bytes}
-use Rattle.promise.specs.Requests.{receive}
+use Rattle.finding.specs.declared.wanted.Wanted.{Wanted}
+use Rattle.promise.specs.Promise.{Bytes, request_bytes}
 use Rattle.promise.specs.declared.heads.Head.{Head}
 use Rattle.promise.specs.States.{State}
 use Rattle.promise.specs.declared.answers.Answer.TheVariants.{Open}
+use Rattle.round_lines.specs.Lines.{right_size}
+use Rattle.round_lines.specs.declared.lines.Lines.{Lines}
+use Rattle.sheets.specs.Passing.{askable}
 use Rattle.sheets.specs.Sheets.{Line}
 use Rattle.sheets.specs.declared.checking.Question.{Question}
+use Rattle.std.specs.Bool.{Decides}
 use Rattle.std.specs.List.{AllByRecursion}
+use Rattle.turns.specs.Found.{lines_found}
 use Rattle.wire.specs.Numbers.{Taken}
 use Rattle.wire.specs.declared.faults.Fault.{Fault}
 use Rattle.wire.specs.declared.faults.Fault.TheVariants as faults
@@ -36,6 +44,33 @@ module _ (cs : List Certificate) (q : Question) where
   abbrev pub gate_of : State
   gate_of = record { owner = q.owner; day = q.day; certificates = cs }
 
+  -- a request with these lines opens that gate
+  abbrev pub OpenedBy : List Line → Type 0
+  OpenedBy lines = AllByRecursion WellFormed cs → (receive gate_of (request_bytes q.house q.right lines)).1 ≡ Open ∷ []
+
+  -- The lines on which what is wanted rests are the sheet's, and open the gate; where nothing is wanted there is no sheet.
+  abbrev pub SheetBy : Lines → List ℕ → Option Wanted → Type 0
+  SheetBy lines numbers None = sheet_for cs q ≡ None
+  SheetBy lines numbers (Some w) =
+      (sheet_for cs q ≡ Some (kept_by cs q.owner (lines_found cs (vec_items lines.found)) (line_of_wanted w) numbers (vec_items lines.right_lines)))
+      × OpenedBy (kept_by cs q.owner (lines_found cs (vec_items lines.found)) (line_of_wanted w) numbers (vec_items lines.right_lines))
+
+  -- All lines were found, no more than there can be, and what is wanted, exactly where the house may; or there is a reason why not, and memory is as it was.
+  abbrev pub WantedFound : List ℕ → List ℕ → List ℕ → List ℕ → Result (Lines × Option Wanted) Unfound → Type 0
+  WantedFound names numbers names' numbers' (Ok p) =
+      (askable q ≡ true) × Filled cs q names numbers names' numbers' × (length (vec_items p.0.found) ≤ length cs * 1024) × Decides (is_some p.1) Allowed × SheetBy p.0 numbers' p.1
+  WantedFound names numbers names' numbers' (Err unfound) = Unsought cs q names numbers names' numbers' unfound
+
+  -- the house may and the kept lines open the gate, or there is no sheet and it may not
+  abbrev pub KeptWorth : Result KeptLines Unfound → Type 0
+  KeptWorth (Ok kept) = Allowed × OpenedBy (lines_of_kept cs kept)
+  KeptWorth (Err NoSheet) = Allowed → ⊥
+  KeptWorth (Err (TooShort needed)) = Unit {0}
+  KeptWorth (Err Malformed) = Unit {0}
+  KeptWorth (Err OutOfRange) = Unit {0}
+  KeptWorth (Err NoMemory) = Unit {0}
+  KeptWorth (Err WrongSize) = Unit {0}
+
   -- the request with the sheet opens that gate
   pub record Opens : Type 0 where
     pub lines : List Line
@@ -46,6 +81,10 @@ module _ (cs : List Certificate) (q : Question) where
   abbrev pub WrittenOpens : List ℕ → Result ℕ Unfound → Type 0
   WrittenOpens request' (Ok long) = AllByRecursion WellFormed cs → (receive gate_of (take long request')).1 ≡ Open ∷ []
   WrittenOpens request' (Err unfound) = Unit {0}
+
+  -- so it is where the head asks what the question asks
+  abbrev pub OpensAsked : List ℕ → List ℕ → Result ℕ Unfound → Type 0
+  OpensAsked request request' r = Bytes request → (h : Head) (rest : List ℕ) → head_of request ≡ Some (h, rest) → h.house ≡ q.house → h.right ≡ q.right → WrittenOpens request' r
 
   -- A sheet is written only for a house that may, and opens the gate; without one the house may not.
   abbrev pub Worth : Result ℕ Unfound → Type 0

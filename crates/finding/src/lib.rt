@@ -2,7 +2,10 @@
 #![tactic(auto)]
 
 pub mod growing;
+pub(crate) mod kept_lines;
 pub mod laws;
+pub(crate) mod refusals;
 pub(crate) mod searching;
 pub mod sheets_found;
 pub(crate) mod wanted;
+pub(crate) mod writing;

@@ -1,39 +1,48 @@
 // Which line shows that a house has the right.
-ghost use Rattle.finding.specs.Wanted.{wanted_in};
+ghost use Rattle.finding.specs.Wanted.{line_of_wanted, wanted_in};
 ghost use Rattle.std.specs.Prelude.{◌≡◌};
 
 use facts::is_shown;
+use round_lines::lines::Lines;
 use rounds::numbers::number_at;
 use sheets::checking::Question;
+use sheets::memory::{DELEGATORS, HOLDERS};
 
-// The rows of those who have the right and may pass it on, and of those who have it only.
-const DELEGATORS: u16 = 0;
-
-const HOLDERS: u16 = 1;
-
+// What shows that a house has the right. An enum of our own, since an Option in an Option would not say which is which.
 #[derive(Clone, Copy)]
-pub enum Wanted {
-    // the house is not shown to have the right
-    NotShown,
-    // the start shows it: the house is the owner
+pub(crate) enum Wanted {
+    // the start: the house is the owner
     AtStart,
-    // the line of this number first showed it
+    // the line of this number, the first that showed it
     ByLine(u32),
 }
 
-// That the house may pass the right on is wanted, if it is shown; else that it has it only.
-pub(crate) fn wanted_line(question: &Question, rights: &[u64], right_lines: &[u32]) -> Wanted
-    ensures { result ≡ wanted_in question.now rights.now right_lines.now }
+impl Wanted {
+    // The number of the line that shows it; the start has none.
+    pub(crate) fn line(self) -> Option<u32>
+        ensures { result ≡ line_of_wanted self }
+    {
+        match self {
+            Wanted::AtStart => None,
+            Wanted::ByLine(line) => Some(line),
+        }
+    }
+}
+
+// That the house may pass the right on is wanted, if it is shown; else that it has it only. None where neither is shown.
+pub(crate) fn wanted_line(question: &Question, lines: &Lines) -> Option<Wanted>
+    ensures { result ≡ wanted_in question.now lines.now.rights lines.now.right_lines.items }
 {
     let house = question.house;
-    if is_shown(rights, DELEGATORS, house) {
+    let right_lines = lines.right_lines.as_slice();
+    if is_shown(&lines.rights, DELEGATORS, house) {
         if house == question.owner {
-            return Wanted::AtStart;
+            return Some(Wanted::AtStart);
         }
-        return Wanted::ByLine(number_at(right_lines, DELEGATORS, house));
+        return Some(Wanted::ByLine(number_at(right_lines, DELEGATORS, house)));
     }
-    if is_shown(rights, HOLDERS, house) {
-        return Wanted::ByLine(number_at(right_lines, HOLDERS, house));
+    if is_shown(&lines.rights, HOLDERS, house) {
+        return Some(Wanted::ByLine(number_at(right_lines, HOLDERS, house)));
     }
-    Wanted::NotShown
+    None
 }

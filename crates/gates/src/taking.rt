@@ -1,12 +1,11 @@
-// What a gate does on each event.
-ghost use Rattle.std.specs.Prelude.{◌≡◌, ◌<◌, ◌≤◌, length, IfOk, if◌then◌else◌, MatchResult, nat_le};
+// What a gate does on each event. A gate goes through by value, a rule of the project: each method gives back the gate after it.
+ghost use Rattle.std.specs.Prelude.{◌≡◌, ◌<◌, ◌≤◌, length, if◌then◌else◌, MatchResult, nat_le};
 ghost use Rattle.certificates.specs.Certificates.{WellFormed};
 ghost use Rattle.gates.specs.Gates.{state_of};
 ghost use Rattle.gates.specs.declared.troubles.Trouble.TheVariants.{NoMemory, UnknownHouse};
-ghost use Rattle.promise.specs.Happened.{read_on};
 ghost use Rattle.promise.specs.States.{fresh_gate, issue, revoke, day_passed, take, first_taken};
 ghost use Rattle.wire.specs.Exact.{Writable};
-ghost use Rattle.wire.specs.Reading.{event_read, reading_of};
+ghost use Rattle.wire.specs.Reading.{event_read};
 
 use crate::Gate;
 use crate::troubles::Trouble;
@@ -15,16 +14,7 @@ use registry::Registry;
 use std::alloc::Global;
 use wire::events::Event;
 use wire::faults::Fault;
-use wire::reading::{Refusal, read_event};
-
-// Reads the first event of some bytes: what was read is well formed, and less is left.
-fn read_first(bytes: &[u8]) -> Result<(Event, &[u8]), Refusal<'_>>
-    ensures value { reading_of result ≡ event_read bytes.now }
-    ensures writable { IfOk result (λ p. Writable p.0) }
-    ensures shorter { 0 < length bytes.now → length (read_on (reading_of result)) < length bytes.now }
-{
-    read_event(bytes)
-}
+use wire::reading::read_event;
 
 impl Gate {
     // A gate of `owner` on day 0, without certificates.
@@ -34,13 +24,10 @@ impl Gate {
         if owner > LAST_HOUSE {
             return Err(Trouble::UnknownHouse);
         }
-        let Ok(registry) = Registry::new(heap) else {
-            return Err(Trouble::NoMemory);
-        };
         Ok(Gate {
             owner,
             day: 0,
-            registry,
+            registry: Registry::new(heap)?,
         })
     }
 
@@ -49,20 +36,17 @@ impl Gate {
         requires { WellFormed certificate }
         ensures { (state_of result.0, result.1) ≡ issue (state_of self) certificate }
     {
-        match self.registry.issue(certificate) {
-            Ok(()) => (self, None),
-            Err(refused) => (self, Some(refused)),
-        }
+        let refused = self.registry.issue(certificate).err();
+        (self, refused)
     }
 
     // The certificate of this number is taken back.
+    #[tactic(auto, using(registry::proofs::Kept::revoke_past))]
     fn revoke(mut self, number: u16) -> (Gate, Option<Fault>)
         ensures { (state_of result.0, result.1) ≡ revoke (state_of self) number }
     {
-        match self.registry.revoke(number) {
-            Ok(()) => (self, None),
-            Err(fault) => (self, Some(fault)),
-        }
+        let unknown = self.registry.revoke(number).err();
+        (self, unknown)
     }
 
     // A day passes, unless it is the last.
@@ -87,12 +71,14 @@ impl Gate {
             Event::DayPassed => self.pass_day(),
         }
     }
+
     // Takes the first event of some bytes: the gate after it, the fault where it is refused, and what is read on.
+    #[tactic(auto, using(crate::proofs::Keeping::read_writable, crate::proofs::Keeping::read_shorter, crate::proofs::Keeping::refused_shorter))]
     pub fn take_first(self, bytes: &[u8]) -> (Gate, Option<Fault>, &[u8])
         ensures value { ((state_of result.0, result.1), result.2.now) ≡ first_taken (state_of self) (event_read bytes.now) }
         ensures shorter { 0 < length bytes.now → length result.2.now < length bytes.now }
     {
-        match read_first(bytes) {
+        match read_event(bytes) {
             Ok((event, rest)) => {
                 let (gate, fault) = self.take(event);
                 (gate, fault, rest)

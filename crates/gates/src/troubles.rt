@@ -8,7 +8,7 @@ use std::alloc::{AllocError, AllocFailed};
 use std::fmt;
 
 // Why there is no gate, or no answer.
-#[derive(Clone, Copy)]
+#[derive(Clone, Copy, Debug, PartialEq, Eq)]
 pub enum Trouble {
     // there is no house of this number
     UnknownHouse,
@@ -18,6 +18,7 @@ pub enum Trouble {
     ShortMemory,
 }
 
+// The conversions and the text are written out: those of thiserror's derive promise neither which trouble it is nor what is told.
 impl From<AllocError> for Trouble {
     ghost from_gives = { λ _ trouble. trouble ≡ NoMemory };
 
@@ -53,3 +54,6 @@ impl fmt::Display for Trouble {
         }
     }
 }
+
+// With it, `?` makes a message of a trouble.
+impl std::error::Error for Trouble {}

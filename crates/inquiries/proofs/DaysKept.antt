@@ -1,15 +1,14 @@
 -- The days on which a house may, after the deliveries by which a gate came about. Assumes nothing.
-use Rattle.std.proofs.Common.{◌≡◌, ℕ, ◌^◌, ◌<◌, ◌↔◌, List, Ok, Err, vec_items, Vec, Result, subst}
+use Rattle.std.proofs.Common.{ℕ, ◌↔◌, List, Ok, Err, vec_items, Vec, Result, subst}
 use Rattle.certificates.specs.Meaning.{May}
-use Rattle.finding.specs.Asking.{question_of}
+use Rattle.promise.specs.Requests.{question_of, run}
 use Rattle.finding.specs.declared.sheets_found.Unfound.{Unfound}
 use Rattle.inquiries.specs.Days.{MayOn, SpansTold, DaysTold, DaysAfter, DaysKept}
-use Rattle.inquiries.specs.Spans.{SpansOf, Covered}
+use Rattle.inquiries.specs.Spans.{SpansOf}
 use Rattle.inquiries.specs.declared.spans.Span.{Span}
 use Rattle.promise.proofs.Ran.{ran}
 use Rattle.promise.specs.Happened.{happened, standing}
 use Rattle.promise.specs.Promise.{Bytes}
-use Rattle.promise.specs.Requests.{run}
 use Rattle.promise.specs.States.{State}
 use Rattle.promise.specs.declared.heads.Head.{Head}
 use Rattle.std.specs.List.{AllByRecursion}

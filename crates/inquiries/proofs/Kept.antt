@@ -1,23 +1,19 @@
 -- What a sheet that is found, or that there is none, means after the deliveries by which a gate came about. Assumes nothing.
-use Rattle.std.proofs.Common.{◌≡◌, ℕ, ◌<◌, List, [], ◌∷◌, Some, Ok, Err, vec_items, Vec, Result, sym, ap, ◌∙◌, subst}
-use Rattle.certificates.specs.Certificates.{WellFormed}
-use Rattle.finding.specs.Asking.{question_of}
+use Rattle.std.proofs.Common.{◌≡◌, ℕ, ◌<◌, List, Some, Ok, Err, Vec, Result, sym, ap, ◌∙◌, subst}
+use Rattle.promise.specs.Requests.{question_of, run}
 use Rattle.finding.specs.Growing.{SheetWorth, HeadTold}
 use Rattle.finding.specs.Worth.{Allowed}
 use Rattle.finding.specs.declared.sheets_found.Unfound.{Unfound}
 use Rattle.finding.specs.declared.sheets_found.Unfound.TheVariants.{NoSheet, TooShort, Malformed, OutOfRange, NoMemory, WrongSize}
-use Rattle.inquiries.specs.Sheets.{AsksLike, ShutOut, Promised, SheetKept}
+use Rattle.inquiries.specs.Sheets.{ShutOut, Promised, SheetKept}
 use Rattle.promise.proofs.Promised.{main}
 use Rattle.promise.proofs.Ran.{Ran, ran}
 use Rattle.promise.specs.Happened.{happened, today}
 use Rattle.promise.specs.Promise.{Bytes, MayAfter}
-use Rattle.promise.specs.Requests.{take_head, receive, run}
 use Rattle.promise.specs.States.{State}
-use Rattle.promise.specs.declared.answers.Answer.TheVariants.{Open}
 use Rattle.promise.specs.declared.heads.Head.{Head}
 use Rattle.std.specs.List.{AllByRecursion}
 use Rattle.std.specs.declared.alloc.Global.{Global}
-use mathlib.Core.List.{Memᴰ}
 
 -- at the gate after the deliveries
 module _ (owner : ℕ) (ds : List (List ℕ)) (small : AllByRecursion Bytes ds) (h : Head) where

@@ -1,6 +1,6 @@
 -- Spans that begin, last and end from day to day. Assumes nothing.
 use Rattle.std.proofs.Common.{◌≡◌, ℕ, ◌+◌, ◌-◌, ◌^◌, ◌<◌, ◌≤◌, Bool, true, false, ◌⊎◌, ◌↔◌, inl, inr, List, [], ◌∷◌, ◌++◌, Some, None, Option, refl, arith}
-use Rattle.inquiries.specs.Spans.{Covered, Apart, SpansOf, Since, begun, BegunBefore, KnownBefore, ended, gone_on}
+use Rattle.inquiries.specs.Spans.{Covered, Apart, SpansOf, Since, KnownBefore, ended, gone_on}
 use Rattle.inquiries.specs.declared.spans.Span.{Span}
 use Rattle.sheets.proofs.Shown.{impossible}
 use Rattle.std.proofs.lemmas.Bool.{cases_lt}

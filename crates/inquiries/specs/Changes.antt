@@ -1,23 +1,30 @@
 -- On which day certificates change next: they begin, or are valid no longer. Assumes nothing.
-use Rattle.std.specs.Prelude.{◌≡◌, ℕ, ◌^◌, ◌<◌, ◌≤◌, min, not, List, length, Some, None, Option}
+use Rattle.std.specs.Prelude.{◌≡◌, ℕ, ◌+◌, ◌^◌, ◌<◌, ◌≤◌, min, not, cond, List, length, Some, None, Option, nat_lt, nat_le}
 use Rattle.certificates.specs.Certificates.{valid}
 use Rattle.certificates.specs.declared.Certificate.{Certificate}
 use Rattle.registry.specs.Numbered.{certificate_at}
+use Rattle.std.specs.List.{filter_map, reduce}
 
 -- a certificate is valid on all days from `day` to the one before `until`, or on none
 abbrev pub Stays : ℕ → ℕ → Certificate → Type 0
 Stays day until c = (other : ℕ) → day ≤ other → other < until → valid other c ≡ valid day c
 
--- the next day on which a certificate changes; none where it never does again
+-- a day, if there is one of that number: days end before 2 ^ 32
+abbrev pub a_day : ℕ → Option ℕ
+a_day n = cond (nat_lt n (2 ^ 32)) (Some n) None
+
+-- the next day on which a certificate begins, or is valid no longer; none where it never does again
+abbrev pub next_of : ℕ → Certificate → Option ℕ
+next_of day c = cond (nat_lt c.last c.first) None (cond (nat_lt day c.first) (a_day c.first) (cond (nat_le day c.last) (a_day (c.last + 1)) None))
+
+-- A certificate stays as it is until the next day, and is not so on it; where there is none it stays so for good.
 abbrev pub NextOf : ℕ → Option ℕ → Certificate → Type 0
 NextOf day None c = Stays day (2 ^ 32) c
 NextOf day (Some next) c = (day < next) × (next < 2 ^ 32) × Stays day next c × (valid next c ≡ not (valid day c))
 
--- the sooner of two days that there may be
-abbrev pub sooner : Option ℕ → Option ℕ → Option ℕ
-sooner None b = b
-sooner (Some a) None = Some a
-sooner (Some a) (Some b) = Some (min a b)
+-- the soonest of these days
+abbrev pub next_among : ℕ → List Certificate → Option ℕ
+next_among day cs = reduce min (filter_map (next_of day) cs)
 
 -- the next day on which any of the certificates changes; days end before 2 ^ 32
 abbrev pub until : Option ℕ → ℕ

@@ -1,15 +1,16 @@
 -- On which days a house may, and what that is worth after any deliveries. Assumes nothing.
-use Rattle.std.specs.Prelude.{◌≡◌, ℕ, Bool, false, ◌⊎◌, List, Option, Ok, Err, vec_items, Vec, Result}
+use Rattle.std.specs.Prelude.{◌≡◌, ℕ, Bool, false, ◌⊎◌, List, Ok, Err, vec_items, Vec, Result}
 use Rattle.certificates.specs.Meaning.{May}
 use Rattle.certificates.specs.declared.Certificate.{Certificate}
-use Rattle.finding.specs.Asking.{question_of, Filled, Untouched}
+use Rattle.finding.specs.Asking.{Filled, Untouched}
 use Rattle.finding.specs.declared.sheets_found.Unfound.{Unfound}
 use Rattle.finding.specs.declared.sheets_found.Unfound.TheVariants.{NoSheet, TooShort, Malformed, OutOfRange, NoMemory, WrongSize}
-use Rattle.inquiries.specs.Spans.{SpansOf, gone_on}
+use Rattle.inquiries.specs.Spans.{SpansOf, so_far, gone_on}
 use Rattle.inquiries.specs.declared.spans.Span.{Span}
+use Rattle.inquiries.specs.declared.spans.SpansSoFar.{SpansSoFar}
 use Rattle.promise.specs.Happened.{happened, standing}
 use Rattle.promise.specs.Promise.{Bytes}
-use Rattle.promise.specs.Requests.{run}
+use Rattle.promise.specs.Requests.{question_of, run}
 use Rattle.promise.specs.States.{State}
 use Rattle.promise.specs.declared.heads.Head.{Head}
 use Rattle.round_lines.specs.Lines.{right_size}
@@ -33,15 +34,15 @@ pub data Left (cs : List Certificate) (q : Question) (names numbers : List ℕ) 
   by_finding : {names' numbers' : List ℕ} (day : ℕ) (names₀ numbers₀ : List ℕ) → Filled cs (on_day q day) names₀ numbers₀ names' numbers' → Left cs q names numbers names' numbers'
 
 -- what asking on a day comes to: whether the house may is known, and the spans go on; or why not
-abbrev pub AskedOn : List Certificate → Question → ℕ → List ℕ → List ℕ → List ℕ → List ℕ → List Span → Option ℕ → List Span → Result (Option ℕ) Unfound → Type 0
-AskedOn cs q day names numbers names' numbers' spans since spans' (Ok after) =
-    (may : Bool) × Decides may (MayOn cs q day) × ((spans', after) ≡ gone_on spans since day may) × Filled cs (on_day q day) names numbers names' numbers'
-AskedOn cs q day names numbers names' numbers' spans since spans' (Err NoMemory) = Filled cs (on_day q day) names numbers names' numbers' ⊎ Untouched cs (on_day q day) names numbers names' numbers'
-AskedOn cs q day names numbers names' numbers' spans since spans' (Err OutOfRange) = (askable q ≡ false) × Untouched cs (on_day q day) names numbers names' numbers'
-AskedOn cs q day names numbers names' numbers' spans since spans' (Err WrongSize) = (right_size names numbers ≡ false) × Untouched cs (on_day q day) names numbers names' numbers'
-AskedOn cs q day names numbers names' numbers' spans since spans' (Err NoSheet) = ⊥
-AskedOn cs q day names numbers names' numbers' spans since spans' (Err (TooShort needed)) = ⊥
-AskedOn cs q day names numbers names' numbers' spans since spans' (Err Malformed) = ⊥
+abbrev pub AskedOn : List Certificate → Question → ℕ → List ℕ → List ℕ → List ℕ → List ℕ → SpansSoFar → SpansSoFar → Result (Unit {0}) Unfound → Type 0
+AskedOn cs q day names numbers names' numbers' spans spans' (Ok done) =
+    (may : Bool) × Decides may (MayOn cs q day) × (so_far spans' ≡ gone_on (vec_items spans.done) spans.since day may) × Filled cs (on_day q day) names numbers names' numbers'
+AskedOn cs q day names numbers names' numbers' spans spans' (Err NoMemory) = Filled cs (on_day q day) names numbers names' numbers' ⊎ Untouched cs (on_day q day) names numbers names' numbers'
+AskedOn cs q day names numbers names' numbers' spans spans' (Err OutOfRange) = (askable q ≡ false) × Untouched cs (on_day q day) names numbers names' numbers'
+AskedOn cs q day names numbers names' numbers' spans spans' (Err WrongSize) = (right_size names numbers ≡ false) × Untouched cs (on_day q day) names numbers names' numbers'
+AskedOn cs q day names numbers names' numbers' spans spans' (Err NoSheet) = ⊥
+AskedOn cs q day names numbers names' numbers' spans spans' (Err (TooShort needed)) = ⊥
+AskedOn cs q day names numbers names' numbers' spans spans' (Err Malformed) = ⊥
 
 -- the spans of the days on which the house may, or why there is no answer
 abbrev pub SpansTold : List Certificate → Question → List ℕ → List ℕ → Result (Vec Span Global) Unfound → Type 0

@@ -1,6 +1,7 @@
 -- Spans of days. Assumes nothing.
-use Rattle.std.specs.Prelude.{◌≡◌, ℕ, ◌+◌, ◌-◌, ◌^◌, ◌<◌, ◌≤◌, Bool, true, false, cond, ◌⊎◌, ◌↔◌, List, [], ◌∷◌, ◌++◌, Some, None, Option, codes, decimal, ◌==◌}
+use Rattle.std.specs.Prelude.{ℕ, ◌+◌, ◌-◌, ◌^◌, ◌<◌, ◌≤◌, Bool, true, false, cond, ◌⊎◌, ◌↔◌, List, [], ◌∷◌, ◌++◌, Some, None, Option, codes, decimal, vec_items, ◌==◌}
 use Rattle.inquiries.specs.declared.spans.Span.{Span}
+use Rattle.inquiries.specs.declared.spans.SpansSoFar.{SpansSoFar}
 
 -- the day lies in one of the spans
 unfoldable pub Covered : ℕ → List Span → Type 0
@@ -34,6 +35,9 @@ pub record KnownBefore (P : ℕ → Type 0) (day : ℕ) (spans : List Span) (sin
   pub apart : Apart 0 spans (begun since day)
   pub begun_before : BegunBefore since day
   pub exact : (other : ℕ) → other < day → (Covered other spans ⊎ Since since other) ↔ P other
+
+abbrev pub so_far : SpansSoFar → List Span × Option ℕ
+so_far s = (vec_items s.done, s.since)
 
 -- a span that ends
 abbrev pub ended : List Span → Option ℕ → ℕ → List Span

@@ -1,14 +1,16 @@
 // On which day a certificate begins, or is valid no longer.
-ghost use Rattle.std.specs.Prelude.{◌≡◌, ◌<◌, ◌^◌};
-ghost use Rattle.inquiries.specs.Changes.{NextOf, NextChange, sooner};
+ghost use Rattle.std.specs.Prelude.{◌≡◌};
+ghost use Rattle.inquiries.specs.Changes.{next_of, NextOf, next_among, NextChange};
 ghost use Rattle.registry.specs.Numbered.{certificates_of};
 
 use certificates::Certificate;
 use registry::Registry;
 
 // The next day, behind `day`, on which a certificate changes.
+#[tactic(auto, using(crate::proofs::Sooner::next_told))]
 fn next_of(certificate: &Certificate, day: u32) -> Option<u32>
-    ensures { NextOf day result certificate.now }
+    ensures value { result ≡ next_of day certificate.now }
+    ensures change { NextOf day result certificate.now }
 {
     if certificate.last < certificate.first {
         return None;
@@ -22,29 +24,21 @@ fn next_of(certificate: &Certificate, day: u32) -> Option<u32>
     None
 }
 
-// The sooner of two days that there may be.
-fn sooner(one: Option<u32>, other: Option<u32>) -> Option<u32>
-    ensures { result ≡ sooner one other }
+// The soonest of the days, behind `day`, on which one of these certificates changes.
+fn soonest(certificates: &[Certificate], day: u32) -> Option<u32>
+    ensures { result ≡ next_among day certificates.now }
 {
-    let Some(first) = one else {
-        return other;
-    };
-    let Some(second) = other else {
-        return one;
-    };
-    Some(first.min(second))
+    certificates
+        .iter()
+        .filter_map(|certificate| next_of(certificate, day))
+        .min()
 }
 
-// The next day, behind `day`, on which some certificate changes.
+// The next day, behind `day`, on which some certificate changes: until then each stays valid, or not.
+// Apart from `soonest`: in one function with the chain the clause stays open.
+#[tactic(auto, using(crate::proofs::Sooner::next_change))]
 pub(crate) fn next_change(registry: &Registry, day: u32) -> Option<u32>
     ensures { NextChange day result (certificates_of registry.now) }
 {
-    let mut next = None;
-    for place in 0..registry.len() {
-        let Some(certificate) = registry.get(place as u16) else {
-            continue;
-        };
-        next = sooner(next, next_of(&certificate, day));
-    }
-    next
+    soonest(registry.certificates(), day)
 }

@@ -1,12 +1,12 @@
-// The days on which a house may. Its answer changes only where a certificate does, so finding is asked once for each stretch of days between.
+// The days on which a house may. The answer changes only where a certificate does, so finding is asked once for each stretch of days between.
+// The lent slices go side by side: of a struct that holds `&mut`, each contract would have to say that it holds the same reference still.
 ghost use Rattle.finding.specs.Growing.{bare_head};
 ghost use Rattle.gates.specs.Gates.{state_of};
 ghost use Rattle.inquiries.specs.Days.{AskedOn, SpansTold, Left, DaysTold, DaysLeft, DaysKept};
-ghost use Rattle.inquiries.specs.Spans.{BegunBefore};
 ghost use Rattle.registry.specs.Numbered.{certificates_of};
 
 use crate::changes::next_change;
-use crate::spans::{Span, end, go_on};
+use crate::spans::{Span, SpansSoFar};
 use finding::growing::{bare_head, may};
 use finding::sheets_found::Unfound;
 use gates::Gate;
@@ -22,20 +22,14 @@ fn ask_on(
     day: u32,
     names: &mut [u64],
     name_lines: &mut [u32],
-    spans: &mut Vec<Span>,
-    since: Option<u32>,
-) -> Result<Option<u32>, Unfound>
-    requires { BegunBefore since day }
-    ensures { AskedOn (certificates_of registry.now) question.now day names.old name_lines.old names.new name_lines.new spans.old.items since spans.new.items result }
+    spans: &mut SpansSoFar,
+) -> Result<(), Unfound>
+    ensures { AskedOn (certificates_of registry.now) question.now day names.old name_lines.old names.new name_lines.new spans.old spans.new result }
 {
     let asked = Question { day, ..*question };
-    match may(heap, registry, &asked, names, name_lines) {
-        Ok(allowed) => match go_on(spans, since, day, allowed) {
-            Ok(after) => Ok(after),
-            Err(_) => Err(Unfound::NoMemory),
-        },
-        Err(unfound) => Err(unfound),
-    }
+    let allowed = may(heap, registry, &asked, names, name_lines)?;
+    spans.go_on(day, allowed)?;
+    Ok(())
 }
 
 // The spans of all days on which the house may.
@@ -49,28 +43,19 @@ fn spans_of(
     ensures told { SpansTold (certificates_of registry.now) question.now names.old name_lines.old result }
     ensures left { Left (certificates_of registry.now) question.now names.old name_lines.old names.new name_lines.new }
 {
-    let mut spans = Vec::new(heap);
-    let mut since = None;
-    let mut day = 0;
-    'stretches: loop {
-        match ask_on(
-            heap, registry, question, day, names, name_lines, &mut spans, since,
-        ) {
-            Ok(after) => since = after,
-            Err(unfound) => return Err(unfound),
-        }
-        let Some(next) = next_change(registry, day) else {
-            break 'stretches;
-        };
-        day = next;
+    let mut spans = SpansSoFar::new(heap);
+    let mut next = Some(0);
+    // each stretch lasts until the next change, on which another begins
+    while let Some(day) = next {
+        ask_on(heap, registry, question, day, names, name_lines, &mut spans)?;
+        next = next_change(registry, day);
     }
-    match end(&mut spans, since, u32::MAX) {
-        Ok(()) => Ok(spans),
-        Err(_) => Err(Unfound::NoMemory),
-    }
+    spans.end(u32::MAX)?;
+    Ok(spans.done)
 }
 
-// What a gate tells of the days follows from the spans by its certificates.
+// What a gate tells of the days follows from the spans by its certificates. Apart from `days_for`, since `kept` is
+// proved by hand: a wrong call there is then refused in its own line, and not in a proof file.
 fn days_by_head(
     heap: Global,
     gate: &Gate,
@@ -82,16 +67,7 @@ fn days_by_head(
     ensures left { DaysLeft (state_of gate.now) names.old name_lines.old names.new name_lines.new (bare_head request.now) }
     ensures kept { DaysKept (state_of gate.now) (bare_head request.now) result }
 {
-    let head = match bare_head(request) {
-        Ok(head) => head,
-        Err(unfound) => return Err(unfound),
-    };
-    let question = Question {
-        day: gate.day(),
-        owner: gate.owner(),
-        right: head.right,
-        house: head.house,
-    };
+    let question = bare_head(request)?.question(gate.day(), gate.owner());
     spans_of(heap, gate.registry(), &question, names, name_lines)
 }
 

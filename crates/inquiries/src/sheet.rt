@@ -1,4 +1,4 @@
-// The sheet for a request without lines, at a gate.
+// The sheet for a request without lines, at a gate. The lent slices go side by side, a rule of the project.
 ghost use Rattle.finding.specs.Growing.{bare_head, HeadTold};
 ghost use Rattle.gates.specs.Gates.{state_of};
 ghost use Rattle.inquiries.specs.Sheets.{SheetKept};

@@ -2,6 +2,7 @@
 ghost use Rattle.pieces.specs.Pieces.{PiecesJoin};
 
 // A gate that took a delivery in pieces is the gate after that delivery.
+#[tactic(auto, using(crate::proofs::Joined::pieces_join))]
 pub fn law_of_pieces()
     ensures { PiecesJoin }
 {}

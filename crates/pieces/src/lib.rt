@@ -24,7 +24,7 @@ fn ready(rest: &[u8], last: bool) -> bool
     !rest.is_empty() && (last || rest.len() >= LONGEST_EVENT)
 }
 
-// Adds the answer to an event, where it is refused; says whether nothing more of the delivery is read.
+// Adds the answer to an event, where it is refused, in room that is reserved; says whether nothing more of the delivery is read.
 fn note_within(fault: Option<Fault>, answers: &mut Vec<Answer>) -> bool
     requires { vec_len answers.old < vec_capacity answers.old }
     ensures value { result ≡ stopped fault }
@@ -38,8 +38,9 @@ fn note_within(fault: Option<Fault>, answers: &mut Vec<Answer>) -> bool
     matches!(fault, Fault::Malformed)
 }
 
-// Takes events of a piece, as long as there is room for their answers and what is left is ready.
-fn take_ready<'a>(
+// Takes events of a piece of a delivery, as long as there is room for their answers and what is left is enough for any event,
+// or to the end if nothing follows the piece. Gives what is left; `None` where nothing more of the delivery is read.
+pub fn take_piece<'a>(
     gate: Gate,
     piece: &'a [u8],
     last: bool,
@@ -62,21 +63,4 @@ fn take_ready<'a>(
         }
     }
     (gate, Some(rest))
-}
-
-// Takes events of a piece of a delivery, as long as there is room for their answers and what is left is enough for any event,
-// or to the end if nothing follows the piece. Gives what is left; `None` where nothing more of the delivery is read.
-pub fn take_piece<'a>(
-    gate: Gate,
-    piece: &'a [u8],
-    last: bool,
-    answers: &mut Vec<Answer>,
-) -> (Gate, Option<&'a [u8]>)
-    ensures taken { PieceTaken (state_of gate) answers.old.items piece.now last (state_of result.0) answers.new.items (option_map (λ x. x.now) result.1) }
-    ensures until { LeftOver (vec_capacity answers.old) (vec_len answers.new) last (option_map (λ x. x.now) result.1) }
-    ensures fewer { vec_len answers.new + left_length (option_map (λ x. x.now) result.1) ≤ vec_len answers.old + length piece.now }
-    ensures room { vec_capacity answers.new ≡ vec_capacity answers.old }
-    ensures promised { KeptPiece (state_of gate) piece.now last (state_of result.0) (option_map (λ x. x.now) result.1) }
-{
-    take_ready(gate, piece, last, answers)
 }

@@ -16,18 +16,13 @@ pub(crate) struct Call {
     pub(crate) files: Vec<String>,
 }
 
-// The house that an argument names.
+// The house that an argument names. A function and no `FromStr`: a house is a number like others, with no type of its own.
 pub fn parse_house(text: &str) -> Option<u16>
     ensures { SomeIff result (HouseText text.now) (house_of text.now) }
 {
-    let Ok(house) = text.parse::<u16>() else {
-        return None;
-    };
-    if house <= LAST_HOUSE {
-        Some(house)
-    } else {
-        None
-    }
+    text.parse::<u16>()
+        .ok()
+        .filter(|house| *house <= LAST_HOUSE)
 }
 
 // Reads the arguments; none where the usage or the version was asked for, which is printed then.
@@ -50,10 +45,7 @@ pub(crate) fn read_call(rt: &HostRuntime, name: &str, usage: &str) -> anyhow::Re
             let Some(owner) = parse_house(text) else {
                 return Err(anyhow!("OWNER is a house, a number from 0 to {LAST_HOUSE}"));
             };
-            let mut files = Vec::new(rt.alloc());
-            for file in arguments {
-                files.push(file)?;
-            }
+            let files = arguments.collect(rt.alloc())?;
             Ok(Some(Call { owner, files }))
         }
     }

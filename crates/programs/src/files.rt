@@ -2,6 +2,7 @@
 ghost use Rattle.programs.specs.Files.{ReadOn};
 
 use anyhow::anyhow;
+use promise::heads::REQUEST;
 use std::fs::File;
 use std::io::Read;
 use std::{fs, io};
@@ -9,24 +10,18 @@ use std::{fs, io};
 // The most bytes that are read at once.
 pub const PIECE: usize = 16384;
 
-// A message that names the file.
+// A message that names the file. It is one text: a context would print apart from its cause.
 fn trouble(name: &str, error: io::Error) -> anyhow::Error {
     anyhow!("{name}: {error}")
 }
 
 // Opens a file, which is no folder. No contract speaks of files, so only a run shows that it is the one named.
 pub fn open_file(rt: &HostRuntime, name: &str) -> anyhow::Result<File> {
-    let found = match fs::metadata(rt, name) {
-        Ok(found) => found,
-        Err(error) => return Err(trouble(name, error)),
-    };
+    let found = fs::metadata(rt, name).map_err(|error| trouble(name, error))?;
     if found.is_dir() {
         return Err(anyhow!("{name}: is a folder"));
     }
-    match fs::open(rt, name) {
-        Ok(file) => Ok(file),
-        Err(error) => Err(trouble(name, error)),
-    }
+    fs::open(rt, name).map_err(|error| trouble(name, error))
 }
 
 // Reads on behind the bytes that are there; false at the end of the file. Which bytes come, only a run shows.
@@ -34,25 +29,62 @@ pub fn read_on(file: &mut File, name: &str, bytes: &mut Vec<u8>) -> anyhow::Resu
     ensures { ReadOn bytes.old.items bytes.new.items result }
 {
     let mut piece = [0u8; PIECE];
-    let count = match file.read(&mut piece) {
-        Ok(count) => count,
-        Err(error) => return Err(trouble(name, error)),
-    };
+    let count = file.read(&mut piece).map_err(|error| trouble(name, error))?;
     bytes.extend_from_slice(&piece[0..count])?;
     Ok(count > 0)
 }
 
-// Reads on to the end of the file, or until there are more bytes than `longest`: enough to see that it is longer.
-pub(crate) fn read_past(
-    file: &mut File,
-    name: &str,
-    bytes: &mut Vec<u8>,
-    longest: usize,
-) -> anyhow::Result<()> {
-    for _ in 0..=longest {
-        if bytes.len() > longest || !read_on(file, name, bytes)? {
-            break;
-        }
+// A file that is read as a delivery.
+#[derive(Drop)]
+pub(crate) struct Delivery<'a> {
+    pub(crate) name: &'a str,
+    file: File,
+    // the bytes that are held
+    pub(crate) bytes: Vec<u8>,
+    // how many bytes of the file stand in front of them
+    pub(crate) before: u64,
+}
+
+impl<'a> Delivery<'a> {
+    // Opens the file; no byte is read yet.
+    pub(crate) fn open(rt: &HostRuntime, name: &'a str) -> anyhow::Result<Delivery<'a>> {
+        let file = open_file(rt, name)?;
+        let bytes = Vec::new(rt.alloc());
+        Ok(Delivery {
+            name,
+            file,
+            bytes,
+            before: 0,
+        })
     }
-    Ok(())
+
+    // Reads on by a piece; false at the end of the file.
+    pub(crate) fn read_on(&mut self) -> anyhow::Result<bool>
+        ensures { ReadOn self.old.bytes.items self.new.bytes.items result }
+    {
+        read_on(&mut self.file, self.name, &mut self.bytes)
+    }
+
+    // Whether it is a request: its first byte says so.
+    pub(crate) fn is_request(&self) -> bool {
+        matches!(self.bytes.as_slice(), [REQUEST, ..])
+    }
+
+    // Reads on to the end of the file, or until there are more bytes than `longest`: enough to see that it is longer.
+    pub(crate) fn read_past(&mut self, longest: usize) -> anyhow::Result<()> {
+        // Counted: each turn but the last brings a byte at least.
+        for _ in 0..=longest {
+            if self.bytes.len() > longest || !self.read_on()? {
+                break;
+            }
+        }
+        Ok(())
+    }
+
+    // Holds only the last bytes, so many.
+    pub(crate) fn keep(&mut self, left: usize) {
+        let count = self.bytes.len().saturating_sub(left);
+        self.bytes.drain(..count);
+        self.before = self.before.saturating_add(count as u64);
+    }
 }

@@ -2,10 +2,12 @@
 use crate::requests::{read_inquiry, refuse};
 use inquiries::sheet::sheet_for;
 use std::io::Write;
+use std::process::ExitCode;
 
-pub fn run(rt: &HostRuntime) -> anyhow::Result<bool> {
+// Reading what is asked and refusing are shared with `until`; what is left here differs by the call and by what is written.
+pub fn run(rt: &HostRuntime) -> anyhow::Result<ExitCode> {
     let Some(mut asked) = read_inquiry(rt, "find")? else {
-        return Ok(true);
+        return Ok(ExitCode::SUCCESS);
     };
     match sheet_for(
         rt.alloc(),
@@ -16,7 +18,7 @@ pub fn run(rt: &HostRuntime) -> anyhow::Result<bool> {
     ) {
         Ok(whole) => {
             rt.stdout().write_all(whole.as_slice())?;
-            Ok(true)
+            Ok(ExitCode::SUCCESS)
         }
         Err(unfound) => refuse(rt, unfound),
     }

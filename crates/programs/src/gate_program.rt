@@ -1,28 +1,26 @@
 // The program `gate`: takes each file as a delivery, and prints what the gate answers, one answer to a line.
 use crate::arguments::read_call;
-use crate::files::{open_file, read_on, read_past};
-use crate::taking::{Telling, new_gate, open_all, take_events};
-use anyhow::anyhow;
+use crate::files::Delivery;
+use crate::taking::{new_gate, open_all, take_events};
+use crate::telling::ByNumber;
 use gates::Gate;
 use gates::requests::LONGEST_REQUEST;
-use promise::heads::REQUEST;
+use gates::troubles::Trouble;
 use sheets::checking::MEMORY_WORDS;
-use std::fs::File;
+use std::process::ExitCode;
 
 // Answers a request, of which no more is read than the longest one has, and one byte to see that it is longer.
 fn answer_request(
     rt: &HostRuntime,
     gate: &Gate,
     memory: &mut [u64],
-    name: &str,
-    mut file: File,
-    mut bytes: Vec<u8>,
+    mut delivery: Delivery<'_>,
 ) -> anyhow::Result<()> {
-    read_past(&mut file, name, &mut bytes, LONGEST_REQUEST)?;
-    match gate.answer(bytes.as_slice(), memory) {
-        Ok(answer) => println!(rt; "{answer}")?,
-        Err(_) => return Err(anyhow!("the lent memory is too short")),
-    }
+    delivery.read_past(LONGEST_REQUEST)?;
+    let answer = gate
+        .answer(delivery.bytes.as_slice(), memory)
+        .map_err(Trouble::from)?;
+    println!(rt; "{answer}")?;
     Ok(())
 }
 
@@ -33,19 +31,19 @@ fn receive_file(
     memory: &mut [u64],
     name: &str,
 ) -> anyhow::Result<Gate> {
-    let mut file = open_file(rt, name)?;
-    let mut bytes = Vec::new(rt.alloc());
-    let _ = read_on(&mut file, name, &mut bytes)?;
-    if bytes.first().copied() == Some(REQUEST) {
-        answer_request(rt, &gate, memory, name, file, bytes)?;
+    let mut delivery = Delivery::open(rt, name)?;
+    let _ = delivery.read_on()?;
+    if delivery.is_request() {
+        answer_request(rt, &gate, memory, delivery)?;
         return Ok(gate);
     }
-    take_events(rt, gate, Telling::Answers, name, file, bytes)
+    take_events(rt, gate, &ByNumber, delivery)
 }
 
-pub fn run(rt: &HostRuntime) -> anyhow::Result<bool> {
+// Every file is opened before the first is taken, so that a name that is wrong prints no answers.
+pub fn run(rt: &HostRuntime) -> anyhow::Result<ExitCode> {
     let Some(call) = read_call(rt, "gate", "OWNER FILE...")? else {
-        return Ok(true);
+        return Ok(ExitCode::SUCCESS);
     };
     let mut gate = new_gate(rt, call.owner)?;
     open_all(rt, call.files.as_slice())?;
@@ -53,5 +51,5 @@ pub fn run(rt: &HostRuntime) -> anyhow::Result<bool> {
     for name in &call.files {
         gate = receive_file(rt, gate, memory.as_mut_slice(), name.as_str())?;
     }
-    Ok(true)
+    Ok(ExitCode::SUCCESS)
 }

@@ -1,4 +1,5 @@
 // What the programs share, and what each of them does.
+// The runtime goes to each function that reads or prints, beside the name it tells: of a program, or of one file after the other.
 #![tactic(auto)]
 
 pub mod arguments;
@@ -9,4 +10,5 @@ pub mod gate_program;
 mod places;
 mod requests;
 mod taking;
+mod telling;
 pub mod until_program;

@@ -4,6 +4,7 @@ use wire::reading::read_event;
 // The place where the event begins behind which so many bytes are left: the last that was read of the piece.
 pub(crate) fn begin_of(piece: &[u8], left: usize) -> usize {
     let mut rest = piece;
+    // Counted: each event has a byte at least, so a piece has no more events than bytes.
     for _ in 0..piece.len() {
         let begin = piece.len().saturating_sub(rest.len());
         rest = match read_event(rest) {

@@ -1,16 +1,15 @@
 // Requests without lines, as the last of a program's files.
 use crate::arguments::{Call, read_call};
-use crate::files::{open_file, read_past};
+use crate::files::Delivery;
 use crate::taking::{new_gate, open_all, take_file};
-use anyhow::anyhow;
-use finding::sheets_found::Unfound;
+use anyhow::{Context, anyhow};
+use finding::sheets_found::{HEAD, Unfound};
 use gates::Gate;
 use round_lines::lines::NUMBERS;
 use sheets::checking::MEMORY_WORDS;
+use std::process::ExitCode;
 
-// The bytes of a request without lines; more of a file are not read than show that it has more.
-const REQUEST_BYTES: usize = 8;
-
+// What follows the name of a program that answers a request.
 const USAGE: &str = "OWNER FILE... REQUEST";
 
 // A gate that took all deliveries, the request that follows them, and memory for finding.
@@ -22,12 +21,11 @@ pub(crate) struct Inquiry {
     pub(crate) name_lines: Vec<u32>,
 }
 
-// The front of a file that holds a request.
+// The front of a file that holds a request; no more of it is read than shows that it is longer than a request without lines.
 fn read_request(rt: &HostRuntime, name: &str) -> anyhow::Result<Vec<u8>> {
-    let mut file = open_file(rt, name)?;
-    let mut bytes = Vec::new(rt.alloc());
-    read_past(&mut file, name, &mut bytes, REQUEST_BYTES)?;
-    Ok(bytes)
+    let mut delivery = Delivery::open(rt, name)?;
+    delivery.read_past(HEAD)?;
+    Ok(delivery.bytes)
 }
 
 // Takes the deliveries, and reads the request.
@@ -60,10 +58,8 @@ pub(crate) fn read_inquiry(rt: &HostRuntime, name: &str) -> anyhow::Result<Optio
 }
 
 // Prints the number of a refusal; want of memory has none.
-pub(crate) fn refuse(rt: &HostRuntime, unfound: Unfound) -> anyhow::Result<bool> {
-    let Some(fault) = unfound.fault() else {
-        return Err(anyhow!("out of memory"));
-    };
+pub(crate) fn refuse(rt: &HostRuntime, unfound: Unfound) -> anyhow::Result<ExitCode> {
+    let fault = unfound.fault().context("out of memory")?;
     println!(rt; "{fault}")?;
-    Ok(false)
+    Ok(ExitCode::FAILURE)
 }

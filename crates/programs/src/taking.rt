@@ -1,37 +1,13 @@
 // Files taken as deliveries by a gate.
-use crate::files::{PIECE, open_file, read_on};
-use crate::places::begin_of;
-use anyhow::anyhow;
+use crate::files::{Delivery, open_file};
+use crate::telling::{ByPlace, Part, Telling};
 use gates::Gate;
-use pieces::{LONGEST_EVENT, take_piece};
+use pieces::take_piece;
 use promise::answers::Answer;
-use promise::heads::REQUEST;
-use std::fs::File;
-use std::mem;
-
-// Where refused events are told.
-#[derive(Clone, Copy)]
-pub(crate) enum Telling {
-    // on standard output, by their number
-    Answers,
-    // on standard error, with the file and the place where they begin
-    Troubles,
-}
-
-// How many answers are held at once: all of a piece, or one, so that its place is known.
-fn answers_held(telling: Telling) -> usize {
-    match telling {
-        Telling::Answers => 2 * PIECE + LONGEST_EVENT,
-        Telling::Troubles => 1,
-    }
-}
 
 // A gate of `owner`, as it begins.
 pub(crate) fn new_gate(rt: &HostRuntime, owner: u16) -> anyhow::Result<Gate> {
-    match Gate::new(rt.alloc(), owner) {
-        Ok(gate) => Ok(gate),
-        Err(trouble) => Err(anyhow!("{trouble}")),
-    }
+    Ok(Gate::new(rt.alloc(), owner)?)
 }
 
 // Fails where a file can't be opened, before anything is printed.
@@ -42,88 +18,72 @@ pub(crate) fn open_all(rt: &HostRuntime, files: &[String]) -> anyhow::Result<()>
     Ok(())
 }
 
-// Tells the answers to a part of a piece that stands behind `taken` bytes of its file.
-fn tell(
+// Takes the events of the bytes that are held, and tells their answers. Gives how many bytes are left; none where nothing more of the file is read.
+fn take_held<T: Telling>(
     rt: &HostRuntime,
-    telling: Telling,
-    name: &str,
-    taken: u64,
-    part: &[u8],
-    left: usize,
-    answers: &[Answer],
-) -> anyhow::Result<()> {
-    let mut lines = String::new(rt.alloc());
-    for answer in answers {
-        match telling {
-            Telling::Answers => writeln!(lines, "{answer}")?,
-            Telling::Troubles => {
-                let place = taken.saturating_add(begin_of(part, left) as u64);
-                writeln!(lines, "{name}: byte {place}: {answer}")?;
-            }
+    mut gate: Gate,
+    telling: &T,
+    delivery: &Delivery<'_>,
+    last: bool,
+    answers: &mut Vec<Answer>,
+) -> anyhow::Result<(Gate, Option<usize>)> {
+    let mut before = delivery.before;
+    let mut bytes = delivery.bytes.as_slice();
+    // Counted: each turn but the last takes an event, which has a byte at least.
+    for _ in 0..=bytes.len() {
+        answers.clear();
+        let (next, rest) = take_piece(gate, bytes, last, answers);
+        gate = next;
+        let left = rest.map_or(0, |rest| rest.len());
+        let part = Part {
+            name: delivery.name,
+            before,
+            bytes,
+            left,
+        };
+        telling.tell(rt, &part, answers.as_slice())?;
+        let Some(rest) = rest else {
+            return Ok((gate, None));
+        };
+        before = before.saturating_add(bytes.len().saturating_sub(left) as u64);
+        bytes = rest;
+        if answers.is_empty() {
+            break;
         }
     }
-    match telling {
-        Telling::Answers => print!(rt; "{lines}")?,
-        Telling::Troubles => eprint!(rt; "{lines}")?,
-    }
-    Ok(())
+    Ok((gate, Some(bytes.len())))
 }
 
 // Takes the events of a file piece by piece; no more is held than a piece and what an event needs.
-pub(crate) fn take_events(
+pub(crate) fn take_events<T: Telling>(
     rt: &HostRuntime,
     mut gate: Gate,
-    telling: Telling,
-    name: &str,
-    mut file: File,
-    mut piece: Vec<u8>,
+    telling: &T,
+    mut delivery: Delivery<'_>,
 ) -> anyhow::Result<Gate> {
-    let mut answers = Vec::with_capacity(rt.alloc(), answers_held(telling))?;
-    let mut left = Vec::new(rt.alloc());
-    let mut taken = 0u64;
+    let mut answers = Vec::with_capacity(rt.alloc(), telling.answers_held())?;
+    // Counted, since a file may give bytes without end.
     for _ in 0..u64::MAX {
-        let more = read_on(&mut file, name, &mut piece)?;
-        let mut part = piece.as_slice();
-        for _ in 0..=piece.len() {
-            let (next, rest) = take_piece(gate, part, !more, &mut answers);
-            gate = next;
-            let behind = rest.unwrap_or(b"".as_slice());
-            tell(
-                rt,
-                telling,
-                name,
-                taken,
-                part,
-                behind.len(),
-                answers.as_slice(),
-            )?;
-            taken = taken.saturating_add(part.len().saturating_sub(behind.len()) as u64);
-            let Some(rest) = rest else {
-                return Ok(gate);
-            };
-            part = rest;
-            if answers.is_empty() {
-                break;
-            }
-            answers.clear();
-        }
-        left.clear();
-        left.extend_from_slice(part)?;
-        mem::swap(&mut piece, &mut left);
+        let more = delivery.read_on()?;
+        let (next, left) = take_held(rt, gate, telling, &delivery, !more, &mut answers)?;
+        gate = next;
+        let Some(left) = left else {
+            break;
+        };
         if !more {
             break;
         }
+        delivery.keep(left);
     }
     Ok(gate)
 }
 
 // Takes the events of a file; a request in it changes nothing.
 pub(crate) fn take_file(rt: &HostRuntime, gate: Gate, name: &str) -> anyhow::Result<Gate> {
-    let mut file = open_file(rt, name)?;
-    let mut bytes = Vec::new(rt.alloc());
-    let _ = read_on(&mut file, name, &mut bytes)?;
-    if bytes.first().copied() == Some(REQUEST) {
+    let mut delivery = Delivery::open(rt, name)?;
+    let _ = delivery.read_on()?;
+    if delivery.is_request() {
         return Ok(gate);
     }
-    take_events(rt, gate, Telling::Troubles, name, file, bytes)
+    take_events(rt, gate, &ByPlace, delivery)
 }

@@ -1,10 +1,12 @@
 // The program `until`: prints the spans of days on which the house of a request may.
 use crate::requests::{read_inquiry, refuse};
 use inquiries::days::days_for;
+use std::process::ExitCode;
 
-pub fn run(rt: &HostRuntime) -> anyhow::Result<bool> {
+// Reading what is asked and refusing are shared with `find`; what is left here differs by the call and by what is written.
+pub fn run(rt: &HostRuntime) -> anyhow::Result<ExitCode> {
     let Some(mut asked) = read_inquiry(rt, "until")? else {
-        return Ok(true);
+        return Ok(ExitCode::SUCCESS);
     };
     match days_for(
         rt.alloc(),
@@ -17,7 +19,7 @@ pub fn run(rt: &HostRuntime) -> anyhow::Result<bool> {
             for span in &spans {
                 println!(rt; "{span}")?;
             }
-            Ok(true)
+            Ok(ExitCode::SUCCESS)
         }
         Err(unfound) => refuse(rt, unfound),
     }

@@ -6,6 +6,7 @@ use Rattle.promise.specs.declared.answers.Answer.{Answer}
 use Rattle.promise.specs.declared.answers.Answer.TheVariants.{Open, Refused}
 use Rattle.sheets.specs.Checking.{check_sheet}
 use Rattle.sheets.specs.Memory.{names_table}
+use Rattle.sheets.specs.declared.checking.Question.{Question}
 use Rattle.wire.specs.Numbers.{Taken, take_number, and_then}
 use Rattle.wire.specs.declared.faults.Fault.{Fault}
 use Rattle.wire.specs.declared.faults.Fault.TheVariants.{Malformed, OutOfRange, TooManyLines}
@@ -15,6 +16,10 @@ abbrev pub take_head : List ℕ → Taken Head
 take_head s =
     and_then (take_number 1 s) λ kind s₁. and_then (take_number 2 s₁) λ house s₂. and_then (take_number 1 s₂) λ right s₃. and_then (take_number 4 s₃) λ lines rest.
     Some (record { house = house; right = right; lines = lines }, rest)
+
+-- what a request asks at an owner's gate on a day
+abbrev pub question_of : ℕ → ℕ → Head → Question
+question_of day owner head = record { day = day; owner = owner; right = head.right; house = head.house }
 
 abbrev pub decided : Result (Unit {0}) Fault → Answer
 decided (Ok u) = Open

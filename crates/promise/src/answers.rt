@@ -1,4 +1,4 @@
-// What a gate answers.
+// What a gate answers. Not a `Result`, since it is printed in words of its own, and `Display` can't be written for a `Result`.
 ghost use Rattle.promise.specs.Answers.{text_of};
 ghost use Rattle.std.specs.Prelude.{Some};
 

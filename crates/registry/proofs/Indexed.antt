@@ -1,33 +1,26 @@
 -- The index beside the certificates, when one comes or is taken back. Assumes nothing.
-use Rattle.std.proofs.Common.{◌≡◌, ℕ, ◌+◌, ◌<◌, Bool, true, false, cond, ◌&&◌, eqb, ltb, List, [], ◌∷◌, ◌++◌, length, take, drop, vec_items, refl, ap, ◌∙◌, arith}
+use Rattle.std.proofs.Common.{◌≡◌, ℕ, ◌+◌, ◌<◌, Bool, true, false, cond, ◌&&◌, eqb, ltb, List, [], ◌∷◌, ◌++◌, length, take, drop, Result, Ok, Err, sym, refl, ap, ◌∙◌, arith}
 use Rattle.certificates.specs.declared.Certificate.{Certificate}
 use Rattle.registry.proofs.Kept.{row_of_push, length_revoked, row_of_revoked}
-use Rattle.registry.proofs.Lookup.{absent, row_in_more, row_in_inserted}
-use Rattle.registry.proofs.Order.{rising_inserted}
-use Rattle.registry.specs.Index.{is_of, Rising, Place, row_in, Agrees, Numbers}
+use Rattle.registry.proofs.Lookup.{missing, found, nowhere, row_in_more, row_in_inserted}
+use Rattle.registry.proofs.Order.{searchable, rising_inserted}
+use Rattle.registry.specs.Index.{compared, is_of, Place, row_in, Numbers, Indexes, HasRow, Missing}
 use Rattle.registry.specs.Names.{NewName, NoNewName}
-use Rattle.registry.specs.Numbered.{certificates_of, revoke_at}
+use Rattle.registry.specs.Numbered.{revoke_at}
 use Rattle.registry.specs.Rows.{says_name, states_name, row_of}
 use Rattle.registry.specs.declared.Entry.{Entry}
-use Rattle.registry.specs.declared.Registry.{Registry}
 use Rattle.std.proofs.ByRecursion.{All-append, All-drop, all_from_every, All-take, every_from_all}
 use Rattle.std.proofs.lemmas.List.{length_push}
 use Rattle.std.proofs.lemmas.Bool.{and_parts, eqb-true}
 use Rattle.std.proofs.lemmas.Bool.Decides.{nat_tests}
-use Rattle.std.specs.List.{insert}
-
-pub record Indexes (es : List Entry) (cs : List Certificate) : Type 0 where
-  pub rising : Rising es
-  pub agrees : Agrees es cs
-  pub numbers : Numbers es cs
-
-pub indexed : (g : Registry) → Indexes (vec_items g.index) (certificates_of g)
-indexed g = record { rising = g.rising; agrees = g.agrees; numbers = g.numbers }
+use Rattle.std.specs.List.{insert, HoldsAt}
+use Rattle.std.specs.List.Sorted.{IsSearchInRange, IsBinarySearchResult}
+use Rattle.std.specs.Result.{MatchResult}
 
 pub none_indexed : Indexes [] []
 unfolding row_in row_of
 none_indexed = record {
-  rising = λ k d within. let never : ⊥ = omega arith in absurd never;
+  rising = λ i j d less within. let never : ⊥ = omega arith in absurd never;
   agrees = λ house name. refl;
   numbers = λ k d low within. let never : ⊥ = omega arith in absurd never;
 }
@@ -62,9 +55,9 @@ module _ (es : List Entry) (cs : List Certificate) (so : Indexes es cs) where
         Indexes (insert es place x) (cs ++ (c ∷ []))
     indexes_entered place x at issued next it =
         let first : row_of cs x.house x.name ≡ length cs = rw issued it.first in
-        let new = absent x.house x.name (length cs) es so.numbers (so.agrees x.house x.name ∙ first) in
+        let new = nowhere es x.house x.name place at in
         record {
-          rising = rising_inserted es so.rising place x at new;
+          rising = rising_inserted es so.rising place x at;
           agrees = λ house name.
               let says : states_name house name c ≡ is_of x house name = rw issued (ap (λ s. eqb c.issuer house && says_name name s) it.stated) in
               rw (row_in_inserted es place x house name (length (cs ++ (c ∷ []))) new, rows_more house name, row_of_push cs c house name, says, next)
@@ -85,3 +78,17 @@ module _ (es : List Entry) (cs : List Certificate) (so : Indexes es cs) where
     agrees = λ house name. rw (length_revoked i cs, row_of_revoked i cs house name) (so.agrees house name);
     numbers = rw (length_revoked i cs) so.numbers;
   }
+
+  -- what halving finds
+  pub searched : (house name : ℕ) (r : Result ℕ ℕ) → IsSearchInRange r (length es) → IsBinarySearchResult (compared house name) es r →
+      MatchResult r (HasRow es cs house name) (Missing es cs house name)
+  searched house name (Ok place) within at =
+      let is : HoldsAt (λ e. e.row ≡ row_of cs house name) es place = λ d. sym (found house name (length cs) es so.rising place within at d) ∙ so.agrees house name in
+      let known : (d : Entry) → row_of cs house name < length cs = λ d. rw (is d) at (so.numbers place d (omega arith) within) in
+      record { within = within; row = is; known = known (record { house = 0; name = 0; row = 0 }) }
+  searched house name (Err place) within parted =
+      let parts : Place es house name place = record { within = within; parted = parted (searchable es so.rising house name) } in
+      record {
+        parts = parts;
+        none = sym (so.agrees house name) ∙ missing house name (length cs) es (nowhere es house name place parts);
+      }

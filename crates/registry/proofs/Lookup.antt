@@ -1,11 +1,13 @@
 -- The row that entries have for a house's name. Assumes nothing.
-use Rattle.std.proofs.Common.{◌≡◌, ℕ, zero, suc, ◌+◌, ◌<◌, true, false, cond, ltb, List, [], ◌∷◌, length, get_or, drop, refl, ◌∙◌, arith}
-use Rattle.registry.proofs.Order.{before_other}
-use Rattle.registry.specs.Index.{is_of, Place, row_in}
+use Rattle.std.proofs.Common.{◌≡◌, ℕ, zero, suc, ◌+◌, ◌<◌, false, cond, eqb, ltb, List, [], ◌∷◌, length, get_or, drop, refl, inl, inr, ◌∙◌, arith}
+use Rattle.registry.proofs.Order.{same_of, before_other, behind_other}
+use Rattle.registry.specs.Index.{compared, is_of, Rising, Place, row_in}
 use Rattle.registry.specs.declared.Entry.{Entry}
 use Rattle.std.proofs.lemmas.List.{drop_all, drop_more}
 use Rattle.std.proofs.lemmas.Bool.Decides.{nat_tests}
-use Rattle.std.specs.List.{insert, AllWithin}
+use Rattle.std.proofs.lemmas.Bool.{cases_lt, and_parts, eqb-true}
+use Rattle.std.specs.List.{insert, AllWithin, HoldsAt}
+use Rattle.std.specs.declared.cmp.Ordering.TheVariants.{Equal}
 
 -- what holds of each entry holds of those behind the first
 behind : (P : Entry → Type 0) (e : Entry) (es : List Entry) (n : ℕ) → AllWithin P (e ∷ es) 0 (suc n) → AllWithin P es 0 n
@@ -24,24 +26,24 @@ module _ (house name none : ℕ) where
   unfolding row_in
   missing es others = past es (length es) others ∙ rw (drop_all (length es) es (omega arith))
 
-  pub found : (es : List Entry) (place : ℕ) (x : Entry) → Place es house name place → place < length es → x ≡ get_or es place x → is_of x house name ≡ true →
-      row_in es house name none ≡ x.row
+  pub found : (es : List Entry) → Rising es → (place : ℕ) → place < length es → HoldsAt (λ e. compared house name e ≡ Equal) es place → (d : Entry) →
+      row_in es house name none ≡ (get_or es place d).row
   unfolding row_in
-  found es place x at within is same =
-      past es place (λ k d low less. before_other (get_or es k d) house name (at.front k d low less))
-      ∙ rw (drop_more es place x within, ← is, same)
+  found es up place within at d =
+      past es place (λ k e low less.
+      let x = get_or es place e in
+      let same = and_parts (eqb x.house house) (eqb x.name name) (same_of x house name (at e)) in
+      before_other (get_or es k e) house name (rw (eqb-true x.house house same.0, eqb-true x.name name same.1) at (up k place e less within)))
+      ∙ rw (drop_more es place d within, same_of (get_or es place d) house name (at d))
+
+-- where the entries are parted around a name, none is of it
+pub nowhere : (es : List Entry) (house name place : ℕ) → Place es house name place → AllWithin (λ e. is_of e house name ≡ false) es 0 (length es)
+nowhere es house name place at k d low within = elim (cases_lt k place) [
+  | inl front ↦ before_other (get_or es k d) house name (at.parted.0 k d low front)
+  | inr rest ↦ behind_other (get_or es k d) house name (at.parted.1 k d rest within)
+]
 
 module _ (house name n : ℕ) where
-  -- where they give what is no entry's row, they have no entry of the name
-  pub absent : (es : List Entry) → AllWithin (λ e. e.row < n) es 0 (length es) → row_in es house name n ≡ n → AllWithin (λ e. is_of e house name ≡ false) es 0 (length es)
-  unfolding row_in
-  absent [] small none k d low within = let never : ⊥ = omega arith in absurd never
-  absent (e ∷ es) small none zero d low within = let less = small 0 e (omega arith) (omega arith) in grind (arith, nat_tests)
-  absent (e ∷ es) small none (suc k) d low within =
-      let less = small 0 e (omega arith) (omega arith) in
-      let rest : row_in es house name n ≡ n = grind (arith, nat_tests) in
-      absent es (behind (λ f. f.row < n) e es (length es) small) rest k d (omega arith) (omega arith)
-
   -- with a certificate more
   pub row_in_more : (es : List Entry) → AllWithin (λ e. e.row < n) es 0 (length es) →
       row_in es house name (n + 1) ≡ cond (ltb (row_in es house name n) n) (row_in es house name n) (n + 1)

@@ -1,91 +1,67 @@
 -- Entries in order: each stands before all behind it, so the index can be halved. Assumes nothing.
-use Rattle.std.proofs.Common.{◌≡◌, ℕ, zero, suc, ◌+◌, ◌-◌, ◌<◌, true, false, List, length, get_or, inl, inr, arith}
-use Rattle.registry.specs.Index.{before, is_of, Rising, Place}
+use Rattle.std.proofs.Common.{◌≡◌, ℕ, ◌+◌, ◌-◌, ◌<◌, true, false, List, get_or, ap, ◌∙◌, inl, inr, arith}
+use Rattle.registry.specs.Index.{compared, is_of, Rising, Place}
 use Rattle.registry.specs.declared.Entry.{Entry}
 use Rattle.std.proofs.lemmas.List.Edits.{length-insert, get_or-insert_below, get_or-insert_at, get_or-insert_above}
-use Rattle.std.proofs.lemmas.List.Elements.{at_read}
+use Rattle.std.proofs.lemmas.List.Sorted.{searchable_from_sorted}
 use Rattle.std.proofs.lemmas.Bool.{cases_order}
 use Rattle.std.proofs.lemmas.Bool.Decides.{nat_tests}
-use Rattle.std.specs.List.{insert, HoldsAt, AllWithin}
+use Rattle.std.proofs.lemmas.Cmp.{then_total, on_total, nat_cmp_total}
+use Rattle.std.specs.Cmp.{IsTotalOrder}
+use Rattle.std.specs.List.{insert}
+use Rattle.std.specs.List.Sorted.{IsNonDecreasingBy}
+use Rattle.std.specs.Ordering.{nat_cmp, ordering_then, ordering_index, is_lt, ordering_reverse}
+use Rattle.std.specs.declared.cmp.Ordering.{Ordering}
+use Rattle.std.specs.declared.cmp.Ordering.TheVariants.{Less, Equal, Greater}
 
-pub before_other : (e : Entry) (house name : ℕ) → before e house name ≡ true → is_of e house name ≡ false
-before_other e house name stands = grind (arith, nat_tests)
+-- what an entry is sorted by, and the order of these
+abbrev pub key : Entry → ℕ × ℕ
+key e = (e.house, e.name)
 
--- what stands neither before a name nor at it stands behind it
-behind_other : (e x : Entry) → before e x.house x.name ≡ false → is_of e x.house x.name ≡ false → before x e.house e.name ≡ true
-behind_other e x not other = grind (arith, nat_tests)
+abbrev pub key_cmp : ℕ × ℕ → ℕ × ℕ → Ordering
+key_cmp x y = ordering_then (nat_cmp x.0 y.0) (nat_cmp x.1 y.1)
 
-module _ (e f : Entry) (house name : ℕ) (less : before e f.house f.name ≡ true) where
-  before_trans : before f house name ≡ true → before e house name ≡ true
-  before_trans stands = grind (arith, nat_tests)
+key_order : IsTotalOrder key_cmp
+key_order = then_total (on_total (λ (x : ℕ × ℕ). x.0) nat_cmp_total) (on_total (λ (x : ℕ × ℕ). x.1) nat_cmp_total)
 
-  not_before : before e house name ≡ false → before f house name ≡ false
-  not_before not = grind (arith, nat_tests)
+module _ (e : Entry) (house name : ℕ) where
+  pub same_of : compared house name e ≡ Equal → is_of e house name ≡ true
+  same_of stands = grind (arith, nat_tests)
 
-  not_at : before e house name ≡ false → is_of f house name ≡ false
-  not_at not = grind (arith, nat_tests)
+  pub before_other : compared house name e ≡ Less → is_of e house name ≡ false
+  before_other stands = grind (arith, nat_tests)
+
+  pub behind_other : compared house name e ≡ Greater → is_of e house name ≡ false
+  behind_other stands = grind (arith, nat_tests)
+
+-- which of two stands before the other, asked from either
+turned : (e f : Entry) (o : Ordering) → compared f.house f.name e ≡ o → compared e.house e.name f ≡ ordering_reverse o
+turned e f o stands = key_order.antisymm (key f) (key e) ∙ ap ordering_reverse stands
 
 module _ (es : List Entry) (up : Rising es) where
-  far_by : (i n : ℕ) (d : Entry) → i + suc n < length es → before (get_or es i d) (get_or es (i + suc n) d).house (get_or es (i + suc n) d).name ≡ true
-  far_by i zero d within = up i d within
-  far_by i (suc n) d within =
-      let next : i + suc n + 1 ≡ i + suc (suc n) = omega arith in
-      before_trans (get_or es i d) (get_or es (i + suc n) d) _ _ (far_by i n d (omega arith)) (rw next at (up (i + suc n) d (omega arith)))
+  -- so the index may be halved
+  pub searchable : (house name : ℕ) → IsNonDecreasingBy (λ e. ordering_index (compared house name e)) es
+  searchable house name = searchable_from_sorted key_order key es (house, name) (λ k d low within.
+      ap is_lt (turned (get_or es k d) (get_or es (k + 1) d) Less (up k (k + 1) d (omega arith) within)))
 
-  -- each entry stands before all behind it
-  far : (i j : ℕ) (d : Entry) → i < j → j < length es → before (get_or es i d) (get_or es j d).house (get_or es j d).name ≡ true
-  far i j d less within =
-      let same : i + suc (j - i - 1) ≡ j = omega arith in
-      rw same at (far_by i (j - i - 1) d (omega arith))
-
-  module _ (house name middle : ℕ) (x : Entry) (within : middle < length es) (is : x ≡ get_or es middle x) where
-    -- if one entry stands before a name, so do those in front of it
-    pub front_to : before x house name ≡ true → AllWithin (λ e. before e house name ≡ true) es 0 (middle + 1)
-    front_to stands k d low less =
-        let here = at_read es (λ e. before e house name ≡ true) middle x within is stands d in
-        elim (cases_order k middle) [
-          | inl same ↦ rw same here
-          | inr (inl front) ↦ before_trans (get_or es k d) (get_or es middle d) house name (far k middle d front within) here
-          | inr (inr behind) ↦ let none : ⊥ = omega arith in absurd none
-        ]
-
-    -- if one does not, nor do those behind it
-    pub rest_from : before x house name ≡ false → AllWithin (λ e. before e house name ≡ false) es middle (length es)
-    rest_from not k d low below =
-        let here = at_read es (λ e. before e house name ≡ false) middle x within is not d in
-        elim (cases_order k middle) [
-          | inl same ↦ rw same here
-          | inr (inl front) ↦ let none : ⊥ = omega arith in absurd none
-          | inr (inr behind) ↦ not_before (get_or es middle d) (get_or es k d) house name (far middle k d behind below) here
-        ]
-
-  -- a name's entry stands at its place or nowhere
-  pub nowhere : (house name place : ℕ) → Place es house name place → (place < length es → HoldsAt (λ e. is_of e house name ≡ false) es place) →
-      AllWithin (λ e. is_of e house name ≡ false) es 0 (length es)
-  nowhere house name place at other k d low within = elim (cases_order k place) [
-    | inl same ↦ rw same (other (rw same at within) d)
-    | inr (inl front) ↦ before_other (get_or es k d) house name (at.front k d low front)
-    | inr (inr behind) ↦ not_at (get_or es place d) (get_or es k d) house name (far place k d behind within) (at.rest place d (omega arith) (omega arith))
-  ]
-
-  -- an entry more, of a new name and at its place
-  pub rising_inserted : (place : ℕ) (x : Entry) → Place es x.house x.name place → AllWithin (λ e. is_of e x.house x.name ≡ false) es 0 (length es) →
-      Rising (insert es place x)
-  rising_inserted place x at new k d within =
+  -- an entry more, at its place
+  pub rising_inserted : (place : ℕ) (x : Entry) → Place es x.house x.name place → Rising (insert es place x)
+  rising_inserted place x at i j d less within =
       let long = length-insert es place x at.within in
-      elim (cases_order k place) [
+      let front = λ (k : ℕ) (below : k < place). get_or-insert_below es place x d k below at.within in
+      let here = get_or-insert_at es place x d at.within in
+      let back = λ (k : ℕ) (above : place < k).
+      let next : k - 1 + 1 ≡ k = omega arith in
+      rw next at (get_or-insert_above es place x d (k - 1) (omega arith) at.within) in
+      elim (cases_order i place) [
         | inl same ↦
-            rw (same, get_or-insert_at es place x d at.within, get_or-insert_above es place x d place (omega arith) at.within)
-            (behind_other (get_or es place d) x (at.rest place d (omega arith) (omega arith)) (new place d (omega arith) (omega arith)))
-        | inr (inl front) ↦
-            rw (get_or-insert_below es place x d k front at.within)
-            (elim (cases_order (k + 1) place) [
-              | inl same ↦ rw (same, get_or-insert_at es place x d at.within) (at.front k d (omega arith) front)
-              | inr (inl next) ↦ rw (get_or-insert_below es place x d (k + 1) next at.within) (up k d (omega arith))
-              | inr (inr none) ↦ let never : ⊥ = omega arith in absurd never
+            rw (same, here, back j (omega arith)) (turned (get_or es (j - 1) d) x Greater (at.parted.1 (j - 1) d (omega arith) (omega arith)))
+        | inr (inl first) ↦
+            rw (front i first)
+            (elim (cases_order j place) [
+              | inl same ↦ rw (same, here) (at.parted.0 i d (omega arith) first)
+              | inr (inl too) ↦ rw (front j too) (up i j d less (omega arith))
+              | inr (inr behind) ↦ rw (back j behind) (up i (j - 1) d (omega arith) (omega arith))
             ])
-        | inr (inr behind) ↦
-            let back : k - 1 + 1 ≡ k = omega arith in
-            rw (rw back at (get_or-insert_above es place x d (k - 1) (omega arith) at.within), get_or-insert_above es place x d k (omega arith) at.within)
-            (rw back at (up (k - 1) d (omega arith)))
+        | inr (inr behind) ↦ rw (back i behind, back j (omega arith)) (up (i - 1) (j - 1) d (omega arith) (omega arith))
       ]

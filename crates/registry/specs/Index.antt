@@ -1,26 +1,29 @@
 -- The index: entries in order, and the row that they have for a house's name. Assumes nothing.
-use Rattle.std.specs.Prelude.{◌≡◌, ℕ, ◌<◌, ◌≤◌, Bool, true, false, cond, ◌&&◌, ◌||◌, List, [], ◌∷◌, length, ◌==◌, nat_lt}
+use Rattle.std.specs.Prelude.{◌≡◌, ℕ, ◌<◌, ◌≤◌, Bool, cond, ◌&&◌, List, [], ◌∷◌, length, ◌==◌, slice_index_or}
 use Rattle.certificates.specs.declared.Certificate.{Certificate}
 use Rattle.registry.specs.Rows.{row_of}
 use Rattle.registry.specs.declared.Entry.{Entry}
-use Rattle.std.specs.List.{AllWithin, AllAdjacentBelow}
+use Rattle.std.specs.List.{AllWithin, HoldsAt}
+use Rattle.std.specs.List.Sorted.{IsPartitionPoint}
+use Rattle.std.specs.Ordering.{nat_cmp, ordering_then}
+use Rattle.std.specs.declared.cmp.Ordering.{Ordering}
+use Rattle.std.specs.declared.cmp.Ordering.TheVariants.{Less, Greater}
 
--- the entry stands before a house's name: by house, and within a house by name
-abbrev pub before : Entry → ℕ → ℕ → Bool
-before e house name = nat_lt e.house house || (e.house == house && nat_lt e.name name)
+-- how an entry stands to a house's name: by house, and within a house by name
+abbrev pub compared : ℕ → ℕ → Entry → Ordering
+compared house name e = ordering_then (nat_cmp e.house house) (nat_cmp e.name name)
 
 abbrev pub is_of : Entry → ℕ → ℕ → Bool
 is_of e house name = e.house == house && e.name == name
 
--- every entry stands before the next
+-- every entry stands before all behind it
 abbrev pub Rising : List Entry → Type 0
-Rising es = AllAdjacentBelow (λ e f. before e f.house f.name ≡ true) es (length es)
+Rising es = (i j : ℕ) (d : Entry) → i < j → j < length es → compared (slice_index_or es j d).house (slice_index_or es j d).name (slice_index_or es i d) ≡ Less
 
--- the entries in front of this place stand before a house's name, the others don't
+-- the entries in front of this place stand before a house's name, the others behind it
 pub record Place (es : List Entry) (house name place : ℕ) : Type 0 where
   pub within : place ≤ length es
-  pub front : AllWithin (λ e. before e house name ≡ true) es 0 place
-  pub rest : AllWithin (λ e. before e house name ≡ false) es place (length es)
+  pub parted : IsPartitionPoint (λ e. compared house name e ≡ Less) (λ e. compared house name e ≡ Greater) es place
 
 -- the row that the entries have for a house's name; `none` where they don't have it
 unfoldable pub row_in : List Entry → ℕ → ℕ → ℕ → ℕ
@@ -34,3 +37,20 @@ Agrees es cs = (house name : ℕ) → row_in es house name (length cs) ≡ row_o
 -- the entries' rows are numbers of certificates, so they have no name that none states
 abbrev pub Numbers : List Entry → List Certificate → Type 0
 Numbers es cs = AllWithin (λ e. e.row < length cs) es 0 (length es)
+
+-- what the index is beside the certificates
+pub record Indexes (es : List Entry) (cs : List Certificate) : Type 0 where
+  pub rising : Rising es
+  pub agrees : Agrees es cs
+  pub numbers : Numbers es cs
+
+-- the entry at this place has the row of a house's name
+pub record HasRow (es : List Entry) (cs : List Certificate) (house name place : ℕ) : Type 0 where
+  pub within : place < length es
+  pub row : HoldsAt (λ e. e.row ≡ row_of cs house name) es place
+  pub known : row_of cs house name < length cs
+
+-- no certificate states a house's name, and this would be its place
+pub record Missing (es : List Entry) (cs : List Certificate) (house name place : ℕ) : Type 0 where
+  pub parts : Place es house name place
+  pub none : row_of cs house name ≡ length cs

@@ -1,6 +1,7 @@
 // A certificate gets the next number, and its name a row if it is new.
 ghost use Rattle.std.specs.Prelude.{◌≡◌, ◌<◌, true, [], ◌∷◌, ◌++◌, length, MatchOption};
 ghost use Rattle.certificates.specs.Certificates.{in_range};
+ghost use Rattle.registry.specs.Index.{Place};
 ghost use Rattle.registry.specs.Names.{NewName, NoNewName};
 ghost use Rattle.registry.specs.Numbered.{certificates_of};
 
@@ -8,17 +9,15 @@ use crate::{Entry, Registry};
 use certificates::{Certificate, Statement};
 
 impl Registry {
-    // The name that a certificate states, if none stated it before.
-    pub(crate) fn new_name(&self, certificate: &Certificate) -> Option<u16>
-        ensures { MatchOption result (NoNewName (certificates_of self.now) certificate.now) (NewName (certificates_of self.now) certificate.now) }
+    // The name that a certificate states and the place of its entry, if none stated it before.
+    pub(crate) fn new_name(&self, certificate: &Certificate) -> Option<(usize, u16)>
+        ensures { MatchOption result (NoNewName (certificates_of self.now) certificate.now) (λ x. Place self.now.index.items certificate.now.issuer x.1 x.0 × NewName (certificates_of self.now) certificate.now x.1) }
     {
-        match certificate.statement {
-            Statement::Name(name) => match self.row(certificate.issuer, name) {
-                Some(_) => None,
-                None => Some(name),
-            },
-            Statement::Rights { .. } => None,
-        }
+        let Statement::Name(name) = certificate.statement else {
+            return None;
+        };
+        let place = self.search(certificate.issuer, name).err()?;
+        Some((place, name))
     }
 
     // A certificate comes that states no new name.
@@ -31,20 +30,21 @@ impl Registry {
         self.certificates.push_reserved(certificate);
     }
 
-    // One comes that states a new name, whose row is its number.
-    pub(crate) fn add_with_name(&mut self, certificate: Certificate, name: u16)
+    // One comes that states a new name, which is entered at its place and whose row is the certificate's number.
+    pub(crate) fn add_with_name(&mut self, certificate: Certificate, place: usize, name: u16)
         requires sound { in_range certificate ≡ true }
         requires few { length (certificates_of self.old) < 1024 }
+        requires place { Place self.old.index.items certificate.issuer name place }
         requires new { NewName (certificates_of self.old) certificate name }
         ensures { certificates_of self.new ≡ certificates_of self.old ++ certificate ∷ [] }
     {
-        let house = certificate.issuer;
-        let row = self.certificates.len() as u16;
-        let place = self.place(house, name);
+        let entry = Entry {
+            house: certificate.issuer,
+            name,
+            row: self.certificates.len() as u16,
+        };
         // room for as many names as certificates is reserved
-        self.index
-            .insert(place, Entry { house, name, row })
-            .unwrap();
+        self.index.insert(place, entry).unwrap();
         self.certificates.push_reserved(certificate);
     }
 }

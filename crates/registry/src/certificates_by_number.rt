@@ -1,9 +1,10 @@
 // Certificates come, are asked for by number, and are taken back.
-ghost use Rattle.std.specs.Prelude.{◌≡◌, ◌<◌, ◌≤◌, true, [], ◌∷◌, ◌++◌, length, is_ok, IfOk, if◌then◌else◌, vec_capacity, MatchOption};
+ghost use Rattle.std.specs.Prelude.{◌≡◌, ◌<◌, ◌≤◌, true, [], ◌∷◌, ◌++◌, length, is_ok, IfOk, if◌then◌else◌, MatchOption};
 ghost use Rattle.certificates.specs.Certificates.{in_range};
+ghost use Rattle.registry.specs.Keeping.{all_in_range};
 ghost use Rattle.registry.specs.Numbered.{certificates_of, certificate_at, issued, revoked, revoke_at};
 
-use crate::{Entry, MOST_CERTIFICATES, Registry};
+use crate::{MOST_CERTIFICATES, Registry};
 use certificates::Certificate;
 use std::alloc::{AllocError, Global};
 use wire::faults::Fault;
@@ -15,20 +16,10 @@ impl Registry {
     {
         let certificates = Vec::with_capacity(heap, MOST_CERTIFICATES)?;
         let index = Vec::with_capacity(heap, MOST_CERTIFICATES)?;
-        Ok(Registry::empty(certificates, index))
-    }
-
-    // The registry of two empty lists that have room.
-    fn empty(certificates: Vec<Certificate>, index: Vec<Entry>) -> Registry
-        requires no_certificates { certificates.items ≡ [] }
-        requires no_names { index.items ≡ [] }
-        requires room { (1024 ≤ vec_capacity certificates) × (1024 ≤ vec_capacity index) }
-        ensures { certificates_of result ≡ [] }
-    {
-        Registry {
+        Ok(Registry {
             certificates,
             index,
-        }
+        })
     }
 
     // How many certificates came.
@@ -39,25 +30,21 @@ impl Registry {
         self.certificates.len()
     }
 
+    // All certificates that came, by number; those taken back are among them.
+    pub fn certificates(&self) -> &[Certificate]
+        ensures value { result.now ≡ certificates_of self.now }
+        ensures few { length result.now ≤ 1024 }
+        ensures sound { all_in_range result.now ≡ true }
+    {
+        self.certificates.as_slice()
+    }
+
     // The certificate of a number.
+    #[tactic(auto, using(crate::proofs::Kept::in_range_at))]
     pub fn get(&self, number: u16) -> Option<Certificate>
         ensures { MatchOption result (length (certificates_of self.now) ≤ number) (λ c. (number < length (certificates_of self.now)) × (c ≡ certificate_at (certificates_of self.now) number) × (in_range c ≡ true)) }
     {
-        let place = usize::from(number);
-        if place < self.certificates.len() {
-            Some(self.at(place))
-        } else {
-            None
-        }
-    }
-
-    // The certificate at a place.
-    fn at(&self, place: usize) -> Certificate
-        requires { place < length (certificates_of self.now) }
-        ensures value { result ≡ certificate_at (certificates_of self.now) place }
-        ensures sound { in_range result ≡ true }
-    {
-        self.certificates[place]
+        self.certificates.get(usize::from(number)).copied()
     }
 
     // A certificate comes and gets the next number, or is refused.
@@ -72,31 +59,22 @@ impl Registry {
             return Err(Fault::TooManyCertificates);
         }
         match self.new_name(&certificate) {
-            Some(name) => self.add_with_name(certificate, name),
+            Some((place, name)) => self.add_with_name(certificate, place, name),
             None => self.add(certificate),
         }
         Ok(())
     }
 
-    // The certificate of a number is taken back.
+    // The certificate of a number is taken back: it is valid on no day from then on.
+    #[tactic(auto, using(crate::proofs::Kept::revoke_past, crate::proofs::Kept::revoke_in_place))]
     pub fn revoke(&mut self, number: u16) -> Result<(), Fault>
         ensures value { result ≡ revoked (certificates_of self.old) number }
         ensures after { certificates_of self.new ≡ revoke_at number (certificates_of self.old) }
     {
-        let place = usize::from(number);
-        if place >= self.certificates.len() {
+        let Some(certificate) = self.certificates.get_mut(usize::from(number)) else {
             return Err(Fault::UnknownCertificate);
-        }
-        self.take_back(place);
+        };
+        *certificate = certificate.revoked();
         Ok(())
-    }
-
-    // The certificate at a place is valid on no day from then on.
-    fn take_back(&mut self, place: usize)
-        requires { place < length (certificates_of self.old) }
-        ensures { certificates_of self.new ≡ revoke_at place (certificates_of self.old) }
-    {
-        let revoked = self.certificates[place].revoked();
-        self.certificates[place] = revoked;
     }
 }

@@ -2,7 +2,7 @@
 #![tactic(auto)]
 
 ghost use Rattle.std.specs.Prelude.{◌≡◌, ◌≤◌, true, vec_len, vec_capacity};
-ghost use Rattle.registry.specs.Index.{Rising, Agrees, Numbers};
+ghost use Rattle.registry.specs.Index.{Indexes};
 ghost use Rattle.registry.specs.Keeping.{all_in_range};
 
 use certificates::Certificate;
@@ -26,14 +26,13 @@ pub(crate) struct Entry {
 pub struct Registry {
     // by number; those taken back keep their number and are valid on no day
     certificates: Vec<Certificate>,
-    // rising by house and name, no two alike
+    // Rising by house and name, no two alike. A sorted list and no map: a certificate that comes is entered without
+    // allocating, in room that was reserved at the start.
     index: Vec<Entry>,
     ghost sound: { all_in_range certificates.items ≡ true },
     ghost few: { vec_len certificates ≤ 1024 },
     ghost room: { 1024 ≤ vec_capacity certificates },
-    ghost rising: { Rising index.items },
-    ghost agrees: { Agrees index.items certificates.items },
-    ghost numbers: { Numbers index.items certificates.items },
+    ghost indexed: { Indexes index.items certificates.items },
     // no more names than certificates, so there is room for each
     ghost fewer: { vec_len index ≤ vec_len certificates },
     ghost space: { 1024 ≤ vec_capacity index },

@@ -1,10 +1,10 @@
 // Marked lines as bytes: a certificate's number and the houses of the steps, two bytes each, high byte first.
 #![tactic(auto)]
 
-ghost use Rattle.std.specs.Prelude.{◌≡◌, ◌+◌, ◌*◌, ◌/◌, ◌%◌, ◌<◌, ◌≤◌, List, ◌++◌, length, drop, if◌then◌else◌, MatchResult, slice_set};
+ghost use Rattle.std.specs.Prelude.{◌≡◌, ◌+◌, ◌*◌, ◌<◌, ◌≤◌, List, ◌++◌, length, drop, MatchResult};
 ghost use Rattle.keeping.specs.Marks.{picked};
-ghost use Rattle.registry.specs.Numbered.{certificates_of, certificate_at};
-ghost use Rattle.sheet_bytes.specs.Writing.{bytes_of_marked, bytes_at, Wrote, Refused};
+ghost use Rattle.registry.specs.Numbered.{certificates_of};
+ghost use Rattle.sheet_bytes.specs.Writing.{bytes_of_marked, Wrote, Refused};
 ghost use Rattle.sheets.specs.Bytes.{line_bytes};
 ghost use Rattle.sheets.specs.Sheets.{Line};
 ghost use Rattle.std.specs.List.{flat_map};
@@ -12,7 +12,6 @@ ghost use Rattle.turns.specs.Found.{line_of, lines_found};
 ghost use Rattle.wire.specs.Numbers.{bytes};
 ghost use Rattle.std.proofs.lemmas.List.Edits.{sets};
 
-use keeping::marking::is_marked;
 use registry::Registry;
 use turns::found::Found;
 
@@ -22,42 +21,24 @@ pub struct TooShort {
     pub needed: usize,
 }
 
-// What a mark adds to the number of marked lines.
-fn count_of(mark: bool) -> usize
-    ensures { result ≡ (if mark then 1 else 0) }
-{
-    if mark { 1 } else { 0 }
-}
-
 // How many lines are marked.
+#[tactic(auto, using(crate::proofs::Sizes::picked_many))]
 pub fn marked_lines(marks: &[bool]) -> usize
     ensures value { (lines : List Line) → length lines ≡ length marks.now → result ≡ length (picked marks.now lines) }
     ensures few { result ≤ length marks.now }
 {
-    let mut lines = 0;
-    for mark in marks {
-        lines += count_of(*mark);
-    }
-    lines
+    marks.iter().filter(|mark| **mark).count()
 }
 
-// How many steps a line has: as many as its certificate's subject has names; none where there is no such certificate.
-fn count_steps(registry: &Registry, line: &Found) -> usize
-    ensures value { result ≡ (certificate_at (certificates_of registry.now) line.now.certificate).subject.count }
-    ensures few { result ≤ 6 }
-{
-    match registry.get(line.certificate) {
-        Some(certificate) => usize::from(certificate.subject.count),
-        None => 0,
-    }
-}
-
-// The houses reached by a line's steps.
+// The houses reached by a line's steps: as many as its certificate's subject has names; none where there is no such certificate.
 fn steps_of<'a>(registry: &Registry, line: &'a Found) -> &'a [u16]
     ensures value { result.now ≡ (line_of (certificates_of registry.now) line.now).houses }
     ensures few { length result.now ≤ 6 }
 {
-    &line.steps.numbers[0..count_steps(registry, line)]
+    match registry.get(line.certificate) {
+        Some(certificate) => line.steps.front(certificate.subject.count),
+        None => &[],
+    }
 }
 
 // How many bytes a line of so many steps takes.
@@ -69,6 +50,7 @@ fn bytes_of_steps(steps: usize) -> usize
 }
 
 // How many bytes a line takes.
+#[tactic(auto, using(crate::proofs::Sizes::line_length))]
 fn bytes_of_line(registry: &Registry, line: &Found) -> usize
     ensures value { result ≡ length (line_bytes (line_of (certificates_of registry.now) line.now)) }
     ensures few { result ≤ 14 }
@@ -76,52 +58,45 @@ fn bytes_of_line(registry: &Registry, line: &Found) -> usize
     bytes_of_steps(steps_of(registry, line).len())
 }
 
-// How many bytes the line at a place adds: none if it is not marked.
-fn bytes_at(registry: &Registry, found: &[Found], place: usize, marks: &[bool]) -> usize
-    requires { place < length found.now }
-    ensures value { result ≡ length (bytes_at marks.now (lines_found (certificates_of registry.now) found.now) place) }
-    ensures few { result ≤ 14 }
-{
-    if is_marked(marks, place) {
-        bytes_of_line(registry, &found[place])
-    } else {
-        0
-    }
-}
-
 // How many bytes the marked lines take.
 pub fn marked_bytes(registry: &Registry, found: &[Found], marks: &[bool]) -> usize
     ensures few { result ≤ 14 * length found.now }
     ensures value { result ≡ length (bytes_of_marked marks.now (lines_found (certificates_of registry.now) found.now)) }
 {
+    // Added in a loop: with `filter`, `map` and `sum` it stays open that the total fits.
     let mut bytes = 0;
-    for i in 0..found.len() {
-        bytes += bytes_at(registry, found, i, marks);
+    for (line, mark) in found.iter().zip(marks) {
+        if *mark {
+            bytes += bytes_of_line(registry, line);
+        }
     }
     bytes
 }
 
 // Writes a number at a place, high byte first.
+#[tactic(auto, using(crate::proofs::Written::u16_written))]
 fn write_u16(out: &mut [u8], at: usize, number: u16)
     requires { at + 2 ≤ length out.old }
-    ensures { out.new ≡ slice_set (slice_set out.old at (number / 256 % 256)) (at + 1) (number % 256) }
+    ensures { out.new ≡ sets out.old at (bytes 2 number) }
 {
-    let [high, low] = number.to_be_bytes();
-    out[at] = high;
-    out[at + 1] = low;
+    // Not one with write_count of finding: both know that there is room; a public function requires nothing, so one for both would have to test for it.
+    out[at..at + 2].copy_from_slice(&number.to_be_bytes());
 }
 
 // Writes numbers from a place on.
+#[tactic(auto, using(crate::proofs::Written::number_more, crate::proofs::Written::numbers_all))]
 fn write_u16s(out: &mut [u8], at: usize, numbers: &[u16])
     requires { at + 2 * length numbers.now ≤ length out.old }
     ensures { out.new ≡ sets out.old at (flat_map (bytes 2) numbers.now) }
 {
-    for i in 0..numbers.len() {
-        write_u16(out, at + 2 * i, numbers[i]);
+    // By place: after `chunks_exact_mut` a proof has the memory's length but not its bytes, so what was written stays open.
+    for (i, number) in numbers.iter().enumerate() {
+        write_u16(out, at + 2 * i, *number);
     }
 }
 
 // Writes a line at a place: the place behind it.
+#[tactic(auto, using(crate::proofs::Sizes::line_length, crate::proofs::Written::line_written))]
 fn write_line(registry: &Registry, line: &Found, out: &mut [u8], at: usize) -> usize
     requires { at + length (line_bytes (line_of (certificates_of registry.now) line.now)) ≤ length out.old }
     ensures place { result ≡ at + length (line_bytes (line_of (certificates_of registry.now) line.now)) }
@@ -133,35 +108,17 @@ fn write_line(registry: &Registry, line: &Found, out: &mut [u8], at: usize) -> u
     at + bytes_of_steps(steps.len())
 }
 
-// Writes the line at a place among those found, if it is marked: the place behind it.
-fn write_at(
-    registry: &Registry,
-    found: &[Found],
-    place: usize,
-    marks: &[bool],
-    out: &mut [u8],
-    at: usize,
-) -> usize
-    requires within { place < length found.now }
-    requires fits { at + length (bytes_at marks.now (lines_found (certificates_of registry.now) found.now) place) ≤ length out.old }
-    ensures place { result ≡ at + length (bytes_at marks.now (lines_found (certificates_of registry.now) found.now) place) }
-    ensures after { out.new ≡ sets out.old at (bytes_at marks.now (lines_found (certificates_of registry.now) found.now) place) }
-{
-    if is_marked(marks, place) {
-        write_line(registry, &found[place], out, at)
-    } else {
-        at
-    }
-}
-
 // Writes the marked lines into the front of memory that is long enough.
+// The lines, their marks and the certificates are no struct: callers of the two public functions have them apart, so it would serve this one alone.
 fn write_lines(registry: &Registry, found: &[Found], marks: &[bool], out: &mut [u8])
     requires { length (bytes_of_marked marks.now (lines_found (certificates_of registry.now) found.now)) ≤ length out.old }
     ensures { out.new ≡ bytes_of_marked marks.now (lines_found (certificates_of registry.now) found.now) ++ drop (length (bytes_of_marked marks.now (lines_found (certificates_of registry.now) found.now))) out.old }
 {
     let mut at = 0;
-    for i in 0..found.len() {
-        at = write_at(registry, found, i, marks, out, at);
+    for (line, mark) in found.iter().zip(marks) {
+        if *mark {
+            at = write_line(registry, line, out, at);
+        }
     }
 }
 

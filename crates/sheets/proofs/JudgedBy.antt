@@ -15,7 +15,7 @@ use Rattle.sheets.specs.Judging.{permits, step_fault, afterwards, judged_by}
 use Rattle.sheets.specs.Memory.{Remembers, remembered}
 use Rattle.sheets.specs.Reading.{houses_of, walk_by, walked_by}
 use Rattle.sheets.specs.Sheets.{reached, fact_of}
-use Rattle.sheets.specs.declared.reading.Line.{Line}
+use Rattle.sheets.specs.declared.line.Line.{Line}
 use Rattle.std.proofs.lemmas.Bool.{and_parts, leb-true}
 use Rattle.std.specs.Option.{option_map}
 use Rattle.wire.specs.declared.faults.Fault.{Fault}

@@ -1,85 +1,57 @@
--- Loops over the houses and steps of a line: what is left gives the same as the whole. Assumes nothing.
-use Rattle.std.proofs.Common.{◌≡◌, ℕ, ◌+◌, ◌<◌, ◌≤◌, Bool, true, false, cond, ◌&&◌, leb, List, [], length, get_or, take, drop, Some, None, Ok, Err, Option, Result, sym, refl, ap, ◌∙◌, add-one, arith, get_or-take}
+-- Going through the houses and steps of a line: what is left gives the same as the whole. Assumes nothing.
+use Rattle.std.proofs.Common.{◌≡◌, ℕ, suc, ◌+◌, ◌≤◌, Bool, true, false, cond, ◌&&◌, leb, ◌⊎◌, List, [], ◌∷◌, length, Some, None, Ok, Err, Option, sym, refl, ap, ◌∙◌, ap₂, add-one, ⊎_elim}
+use Rattle.certificates.specs.Certificates.{names_of}
+use Rattle.sheets.proofs.Shown.{impossible}
 use Rattle.sheets.specs.Checking.{known_houses}
-use Rattle.sheets.specs.Reading.{walk_by}
-use Rattle.std.proofs.lemmas.List.{at_drop_more, drop_more, drop_all, length-take, length-take-le}
-use native.Mathlib.Nat.{min-le_left}
+use Rattle.sheets.specs.Reading.{houses_of, walk_by}
+use Rattle.sheets.specs.declared.line.Line.{Line}
+use Rattle.std.proofs.lemmas.List.{length-take-le}
+use Rattle.std.specs.List.{list_all}
 
--- the first numbers of an array
-module _ (array : List ℕ) (count : ℕ) (fits : count ≤ length array) where
-  pub front_length : length (take count array) ≡ count
-  front_length = length-take-le count array fits
+-- there is a house for each name
+pub paired : (l : Line) → l.certificate.subject.count ≤ length l.certificate.subject.names → l.certificate.subject.count ≤ length l.houses.numbers →
+    length (names_of l.certificate.subject) ≡ length (houses_of l)
+paired l named housed =
+    let count = l.certificate.subject.count in
+    length-take-le count l.certificate.subject.names named ∙ sym (length-take-le count l.houses.numbers housed)
 
-  pub front_at : (i : ℕ) → i < count → get_or (take count array) i 0 ≡ get_or array i 0
-  front_at i below = get_or-take count array i 0 below
-
-  known_from : (i : ℕ) → i < count → known_houses (drop i (take count array)) ≡ (leb (get_or array i 0) 1023 && known_houses (drop (i + 1) (take count array)))
-  unfolding known_houses
-  known_from i below =
-      let more : known_houses (drop i (take count array)) ≡ (leb (get_or (take count array) i 0) 1023 && known_houses (drop (i + 1) (take count array))) =
-      at_drop_more known_houses (take count array) i 0 (omega (arith, front_length)) in
-      more ∙ ap (λ h. leb h 1023 && known_houses (drop (i + 1) (take count array))) (front_at i below)
-
-  -- one house more is known
-  pub known_more : (i : ℕ) → i < count → leb (get_or array i 0) 1023 ≡ true → known_houses (take count array) ≡ known_houses (drop i (take count array)) →
-      known_houses (take count array) ≡ known_houses (drop (i + 1) (take count array))
-  known_more i below small so = so ∙ (known_from i below ∙ ap (λ b. b && known_houses (drop (i + 1) (take count array))) small)
-
-  -- a house is not
-  pub known_not : (i : ℕ) → i < count → leb (get_or array i 0) 1023 ≡ false → known_houses (take count array) ≡ known_houses (drop i (take count array)) →
-      false ≡ known_houses (take count array)
-  known_not i below large so = sym (so ∙ (known_from i below ∙ ap (λ b. b && known_houses (drop (i + 1) (take count array))) large))
-
--- past the front nothing is left of it
-front_left : (array : List ℕ) (count i : ℕ) → count ≤ i → drop i (take count array) ≡ []
-front_left array count i past = drop_all i (take count array) (omega (arith, length-take count array, min-le_left count (length array)))
-
--- all houses are known
-pub known_all_of : (array : List ℕ) (count i : ℕ) → count ≤ i → known_houses (take count array) ≡ known_houses (drop i (take count array)) → true ≡ known_houses (take count array)
+known_houses_all : (houses : List ℕ) → known_houses houses ≡ list_all (λ h. leb h 1023) houses
 unfolding known_houses
-known_all_of array count i past so = sym (so ∙ ap known_houses (front_left array count i past))
+known_houses_all [] = refl
+known_houses_all (h ∷ houses) = ap (λ b. leb h 1023 && b) (known_houses_all houses)
 
--- the steps from the i-th on
-abbrev pub left_by : (ℕ → ℕ → ℕ → Bool) → List ℕ → List ℕ → ℕ → ℕ → ℕ → Result ℕ ℕ
-left_by test names houses count i at = walk_by test i at (drop i (take count names)) (drop i (take count houses))
+pub known_each : (houses : List ℕ) (known : Bool) → known ≡ list_all (λ h. leb h 1023) houses → known ≡ known_houses houses
+known_each houses known is = is ∙ sym (known_houses_all houses)
 
-module _ (test : ℕ → ℕ → ℕ → Bool) (names houses : List ℕ) (count : ℕ) (named : count ≤ length names) (housed : count ≤ length houses) where
-  abbrev left : ℕ → ℕ → Result ℕ ℕ
-  left i at = left_by test names houses count i at
+-- the steps from the i-th on, and the first of them
+module _ (test : ℕ → ℕ → ℕ → Bool) (i at : ℕ) (names houses : List ℕ) where
+  module _ (name house : ℕ) (names' houses' : List ℕ) (more : names ≡ name ∷ names') (further : houses ≡ house ∷ houses') where
+    first_step : walk_by test i at names houses ≡ cond (test at name house) (walk_by test (suc i) house names' houses') (Err i)
+    unfolding walk_by
+    first_step = ap₂ (walk_by test i at) more further
 
-  walk_from : (i at : ℕ) → i < count → left i at ≡ cond (test at (get_or names i 0) (get_or houses i 0)) (left (i + 1) (get_or houses i 0)) (Err i)
+    -- it is shown
+    pub step_more : (next : ℕ) → Some next ≡ cond (test at name house) (Some house) None → walk_by test i at names houses ≡ walk_by test (i + 1) next names' houses'
+    step_more next is = first_step ∙ go (test at name house) is
+      where
+        go : (b : Bool) → Some next ≡ cond b (Some house) None → cond b (walk_by test (suc i) house names' houses') (Err i) ≡ walk_by test (i + 1) next names' houses'
+        go true same = let reached : house ≡ next = cc in ap₂ (λ n h. walk_by test n h names' houses') (sym (add-one i)) reached
+        go false same = impossible (cc)
+
+    -- it is not
+    pub step_not : None ≡ cond (test at name house) (Some house) None → walk_by test i at names houses ≡ Err i
+    step_not is = first_step ∙ go (test at name house) is
+      where
+        go : (b : Bool) → ◌≡◌ {A = Option ℕ} None (cond b (Some house) None) → cond b (walk_by test (suc i) house names' houses') (Err i) ≡ Err i
+        go true same = impossible (cc)
+        go false same = refl
+
+  no_more : (ns : List ℕ) → walk_by test i at ns [] ≡ Ok at
   unfolding walk_by
-  walk_from i at below =
-      let name = drop_more (take count names) i 0 (omega (arith, front_length names count named)) in
-      let house = drop_more (take count houses) i 0 (omega (arith, front_length houses count housed)) in
-      rw (name, house, front_at names count named i below, front_at houses count housed i below, add-one i)
+  no_more [] = refl
+  no_more (n ∷ ns) = refl
 
-  -- what a step gives: the next house, if it is shown
-  abbrev pub step_at : ℕ → ℕ → Option ℕ
-  step_at i at = cond (test at (get_or names i 0) (get_or houses i 0)) (Some (get_or houses i 0)) None
-
-  walk_by_lem : (i at start : ℕ) (b : Bool) → test at (get_or names i 0) (get_or houses i 0) ≡ b → i < count → left 0 start ≡ left i at →
-      left 0 start ≡ cond b (left (i + 1) (get_or houses i 0)) (Err i)
-  walk_by_lem i at start b is below so = so ∙ (walk_from i at below ∙ ap (λ v. cond v (left (i + 1) (get_or houses i 0)) (Err i)) is)
-
-  -- one step more is shown
-  pub walk_more : (i at start next : ℕ) → i < count → Some next ≡ step_at i at → left 0 start ≡ left i at → left 0 start ≡ left (i + 1) next
-  walk_more i at start next below is so = go (test at (get_or names i 0) (get_or houses i 0)) refl is
-    where
-      go : (b : Bool) → test at (get_or names i 0) (get_or houses i 0) ≡ b → Some next ≡ cond b (Some (get_or houses i 0)) None → left 0 start ≡ left (i + 1) next
-      go true shown same = let reached : next ≡ get_or houses i 0 = cc in rw reached (walk_by_lem i at start true shown below so)
-      go false hidden same = let none : ◌≡◌ {A = ℕ} 0 1 = cc in let never : ⊥ = omega arith in absurd never
-
-  -- a step is not
-  pub walk_not : (i at start : ℕ) → i < count → None ≡ step_at i at → left 0 start ≡ left i at → Err i ≡ left 0 start
-  walk_not i at start below is so = go (test at (get_or names i 0) (get_or houses i 0)) refl is
-    where
-      go : (b : Bool) → test at (get_or names i 0) (get_or houses i 0) ≡ b → None ≡ cond b (Some (get_or houses i 0)) None → Err i ≡ left 0 start
-      go true shown same = let none : ◌≡◌ {A = ℕ} 0 1 = cc in let never : ⊥ = omega arith in absurd never
-      go false hidden same = sym (walk_by_lem i at start false hidden below so)
-
--- all steps are shown
-pub walk_all : (test : ℕ → ℕ → ℕ → Bool) (names houses : List ℕ) (count i at start : ℕ) → count ≤ i →
-    left_by test names houses count 0 start ≡ left_by test names houses count i at → Ok at ≡ left_by test names houses count 0 start
-unfolding walk_by
-walk_all test names houses count i at start past so = let ended = front_left names count i past in sym (so ∙ rw ended)
+  -- none is left
+  pub steps_all : (names ≡ []) ⊎ (houses ≡ []) → walk_by test i at names houses ≡ Ok at
+  unfolding walk_by
+  steps_all ended = ⊎_elim (λ is. ap (λ ns. walk_by test i at ns houses) is) (λ is. ap (walk_by test i at names) is ∙ no_more names) ended

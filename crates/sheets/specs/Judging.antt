@@ -6,7 +6,7 @@ use Rattle.certificates.specs.declared.Statement.{Statement}
 use Rattle.certificates.specs.declared.Statement.TheVariants.{Name, Rights}
 use Rattle.sheets.specs.Checking.{known_houses}
 use Rattle.sheets.specs.Reading.{houses_of, walked_by}
-use Rattle.sheets.specs.declared.reading.Line.{Line}
+use Rattle.sheets.specs.declared.line.Line.{Line}
 use Rattle.wire.specs.declared.faults.Fault.{Fault}
 use Rattle.wire.specs.declared.faults.Fault.TheVariants.{LineOutOfRange, NotValid, NotGiven, IssuerNotShown, StepNotShown}
 

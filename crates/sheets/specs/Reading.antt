@@ -5,7 +5,7 @@ use Rattle.certificates.specs.declared.Certificate.{Certificate}
 use Rattle.sheets.specs.Checking.{followed, judged}
 use Rattle.sheets.specs.Facts.{Fact}
 use Rattle.sheets.specs.Sheets.{certificate_at}
-use Rattle.sheets.specs.declared.reading.Line.{Line}
+use Rattle.sheets.specs.declared.line.Line.{Line}
 use Rattle.std.specs.Option.{option_map}
 use Rattle.wire.specs.Numbers.{Taken, take_number, take_numbers}
 use Rattle.wire.specs.declared.faults.Fault.{Fault}

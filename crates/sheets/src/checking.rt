@@ -1,16 +1,14 @@
 // The check of a sheet: one pass over its lines, which allocates nothing.
-ghost use Rattle.std.specs.Prelude.{◌≡◌, ◌≤◌, true, length};
-ghost use Rattle.certificates.specs.Certificates.{names_of, in_range};
+ghost use Rattle.std.specs.Prelude.{◌≡◌, true, length};
 ghost use Rattle.facts.specs.Table.{bit_at};
 ghost use Rattle.registry.specs.Numbered.{certificates_of};
 ghost use Rattle.sheets.specs.Judging.{judged_by};
 ghost use Rattle.sheets.specs.Memory.{remembered};
 ghost use Rattle.sheets.specs.Passing.{names_after, rights_after, LinePassed, LinesPassed, rest_of, entitled_by, concluded_by, askable, Wiped, Done, answered, left_in};
-ghost use Rattle.sheets.specs.Reading.{houses_of};
 
-use crate::judging::judge;
-use crate::memory::{DELEGATORS, HOLDERS, note};
-use crate::reading::{Line, read_line};
+use crate::line::Line;
+use crate::memory::{DELEGATORS, HOLDERS, Shown, note};
+use crate::reading::read_line;
 use certificates::LAST_HOUSE;
 use certificates::rights::LAST_RIGHT;
 use facts::{is_shown, show, wipe};
@@ -38,68 +36,6 @@ impl Question {
     }
 }
 
-// Judges a line by the facts in memory, and only then notes what it shows; gives the last house that it reaches.
-fn judge_then_note(
-    registry: &Registry,
-    question: &Question,
-    names: &mut [u64],
-    rights: &mut [u64],
-    number: u32,
-    line: &Line,
-) -> Result<u16, Fault>
-    requires { in_range line.now.certificate ≡ true }
-    ensures value { result ≡ judged_by (remembered (certificates_of registry.now) names.old) (bit_at rights.old 0 line.now.certificate.issuer) number question.now.day question.now.right line.now }
-    ensures paired { length (names_of line.now.certificate.subject) ≡ length (houses_of line.now) }
-    ensures names { names.new ≡ names_after (certificates_of registry.now) line.now.certificate result names.old }
-    ensures rights { rights.new ≡ rights_after line.now.certificate result rights.old }
-{
-    let last = judge(
-        registry,
-        question.day,
-        question.right,
-        names,
-        rights,
-        number,
-        line,
-    )?;
-    note(registry, &line.certificate, last, names, rights);
-    Ok(last)
-}
-
-// Checks one line by the facts in memory, and notes what it shows; gives what follows it.
-fn check_line<'a>(
-    registry: &Registry,
-    question: &Question,
-    names: &mut [u64],
-    rights: &mut [u64],
-    number: u32,
-    bytes: &'a [u8],
-) -> Result<&'a [u8], Fault>
-    ensures { LinePassed (certificates_of registry.now) question.now number bytes.now names.old rights.old names.new rights.new (rest_of result) }
-{
-    let (line, rest) = read_line(registry, number, bytes)?;
-    judge_then_note(registry, question, names, rights, number, &line)?;
-    Ok(rest)
-}
-
-// Checks as many lines as `count` says, up to the first that is not good; gives what follows them.
-fn check_lines<'a>(
-    registry: &Registry,
-    question: &Question,
-    names: &mut [u64],
-    rights: &mut [u64],
-    count: u32,
-    lines: &'a [u8],
-) -> Result<&'a [u8], Fault>
-    ensures { LinesPassed (certificates_of registry.now) question.now count lines.now names.old rights.old names.new rights.new (rest_of result) }
-{
-    let mut rest = lines;
-    for number in 0..count {
-        rest = check_line(registry, question, names, rights, number, rest)?;
-    }
-    Ok(rest)
-}
-
 // After all lines: no bytes are left over, and the house is shown to have the right.
 fn conclude(house: u16, rights: &[u64], rest: &[u8]) -> Result<(), Fault>
     ensures { result ≡ concluded_by (entitled_by rights.now house) rest.now }
@@ -114,49 +50,84 @@ fn conclude(house: u16, rights: &[u64], rest: &[u8]) -> Result<(), Fault>
     }
 }
 
-// Checks a sheet with memory that is wiped.
-fn check_wiped(
-    registry: &Registry,
-    question: &Question,
-    count: u32,
-    lines: &[u8],
-    memory: &mut [u64],
-) -> Result<(), Fault>
-    ensures { Wiped memory.old → askable question.now ≡ true → length (certificates_of registry.now) ≤ 1024 → Done (certificates_of registry.now) question.now count lines.now memory.new result }
-{
-    let mut rights = [0; 32];
-    show(&mut rights, DELEGATORS, question.owner);
-    let rest = check_lines(registry, question, memory, &mut rights, count, lines)?;
-    conclude(question.house, &rights, rest)
+// What a sheet is checked by: the certificates, and what is asked.
+// The lent memory is no part of it: each contract would have to say that the fields are still the same memory.
+#[derive(Clone, Copy)]
+struct Checker<'a> {
+    registry: &'a Registry,
+    question: &'a Question,
 }
 
-// Forgets what another sheet showed.
-fn start_anew(memory: &mut [u64])
-    requires { 16384 ≤ length memory.old }
-    ensures wiped { Wiped memory.new }
-    ensures same { length memory.new ≡ length memory.old }
-{
-    wipe(memory);
-}
+impl Checker<'_> {
+    // Judges a line by the facts in memory, and only then notes what it shows; gives the last house that it reaches.
+    fn judge_then_note(
+        &self,
+        names: &mut [u64],
+        rights: &mut [u64],
+        number: u32,
+        line: &Line,
+    ) -> Result<u16, Fault>
+        ensures value { result ≡ judged_by (remembered (certificates_of self.now.registry.now) names.old) (bit_at rights.old 0 line.now.certificate.issuer) number self.now.question.now.day self.now.question.now.right line.now }
+        ensures names { names.new ≡ names_after (certificates_of self.now.registry.now) line.now.certificate result names.old }
+        ensures rights { rights.new ≡ rights_after line.now.certificate result rights.old }
+    {
+        let shown = Shown {
+            registry: self.registry,
+            names,
+            rights,
+        };
+        let last = shown.judge(self.question, number, line)?;
+        note(self.registry, &line.certificate, last, names, rights);
+        Ok(last)
+    }
 
-// Checks a sheet with memory that is long enough, for a question that is in range.
-fn check_fresh(
-    registry: &Registry,
-    question: &Question,
-    count: u32,
-    lines: &[u8],
-    memory: &mut [u64],
-) -> Result<(), Fault>
-    requires long { 16384 ≤ length memory.old }
-    requires asked { askable question.now ≡ true }
-    ensures done { Done (certificates_of registry.now) question.now count lines.now memory.new result }
-{
-    start_anew(memory);
-    check_wiped(registry, question, count, lines, memory)
+    // Checks one line by the facts in memory, and notes what it shows; gives what follows it.
+    fn check_line<'b>(
+        &self,
+        names: &mut [u64],
+        rights: &mut [u64],
+        number: u32,
+        bytes: &'b [u8],
+    ) -> Result<&'b [u8], Fault>
+        ensures { LinePassed (certificates_of self.now.registry.now) self.now.question.now number bytes.now names.old rights.old names.new rights.new (rest_of result) }
+    {
+        let (line, rest) = read_line(self.registry, number, bytes)?;
+        self.judge_then_note(names, rights, number, &line)?;
+        Ok(rest)
+    }
+
+    // Checks as many lines as `count` says, up to the first that is not good; gives what follows them.
+    fn check_lines<'b>(
+        &self,
+        names: &mut [u64],
+        rights: &mut [u64],
+        count: u32,
+        lines: &'b [u8],
+    ) -> Result<&'b [u8], Fault>
+        ensures { LinesPassed (certificates_of self.now.registry.now) self.now.question.now count lines.now names.old rights.old names.new rights.new (rest_of result) }
+    {
+        let mut rest = lines;
+        for number in 0..count {
+            rest = self.check_line(names, rights, number, rest)?;
+        }
+        Ok(rest)
+    }
+
+    // Checks a sheet with memory that is wiped, for a question that is in range.
+    fn check_wiped(&self, count: u32, lines: &[u8], memory: &mut [u64]) -> Result<(), Fault>
+        requires wiped { Wiped memory.old }
+        requires asked { askable self.now.question.now ≡ true }
+        ensures { Done (certificates_of self.now.registry.now) self.now.question.now count lines.now memory.new result }
+    {
+        let mut rights = [0; 32];
+        show(&mut rights, DELEGATORS, self.question.owner);
+        let rest = self.check_lines(memory, &mut rights, count, lines)?;
+        conclude(self.question.house, &rights, rest)
+    }
 }
 
 // The lent memory has fewer than 16,384 words: too few for a bit for each row and house.
-#[derive(Clone, Copy)]
+#[derive(Clone, Copy, Debug, PartialEq, Eq)]
 pub struct ShortMemory;
 
 // Whether the sheet of so many lines holds for the house, or its first fault.
@@ -177,5 +148,6 @@ pub fn check(
     if !question.in_range() {
         return Ok(Err(Fault::OutOfRange));
     }
-    Ok(check_fresh(registry, question, count, lines, memory))
+    wipe(memory);
+    Ok(Checker { registry, question }.check_wiped(count, lines, memory))
 }

@@ -4,6 +4,7 @@
 pub mod checking;
 pub(crate) mod judging;
 pub mod laws;
-pub(crate) mod memory;
+pub mod line;
+pub mod memory;
 pub mod reading;
 pub(crate) mod steps;

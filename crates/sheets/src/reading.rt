@@ -1,21 +1,14 @@
-// Lines of a sheet, read from bytes.
+// Lines of a sheet, read from bytes. A reader's answer is taken apart by `let .. else`, a rule of the project.
 ghost use Rattle.std.specs.Prelude.{◌≡◌, ℕ, List, IfOk};
 ghost use Rattle.registry.specs.Numbered.{certificates_of};
 ghost use Rattle.sheets.specs.Checking.{line_checked};
 ghost use Rattle.sheets.specs.Facts.{Fact};
 ghost use Rattle.sheets.specs.Reading.{Kept, outcome_of, past_of, line_skipped, lines_skipped};
 
-use certificates::Certificate;
+pub use crate::line::Line;
 use registry::Registry;
 use wire::faults::Fault;
-use wire::numbers::{Six, read_u16, read_u16s};
-
-// A line as it was read: its certificate, and the house reached after each name of that one's subject.
-#[derive(Clone, Copy)]
-pub struct Line {
-    pub certificate: Certificate,
-    pub houses: Six,
-}
+use wire::numbers::{read, read_u16s};
 
 // Reads the line of this number, whose certificate must be there; gives what follows it.
 pub(crate) fn read_line<'a>(
@@ -26,7 +19,7 @@ pub(crate) fn read_line<'a>(
     ensures value { (day right : ℕ) (facts : List Fact) → line_checked (certificates_of registry.now) day right line facts bytes.now ≡ outcome_of day right line facts result }
     ensures sound { IfOk result (λ p. Kept (certificates_of registry.now) p.0.certificate) }
 {
-    let Some((number, rest)) = read_u16(bytes) else {
+    let Some((number, rest)) = read::<u16, 2>(bytes) else {
         return Err(Fault::LineCut { line });
     };
     let Some(certificate) = registry.get(number) else {
@@ -48,7 +41,7 @@ pub(crate) fn read_line<'a>(
 fn skip_line<'a>(registry: &Registry, bytes: &'a [u8]) -> Option<&'a [u8]>
     ensures { past_of result ≡ line_skipped (certificates_of registry.now) bytes.now }
 {
-    let Some((number, rest)) = read_u16(bytes) else {
+    let Some((number, rest)) = read::<u16, 2>(bytes) else {
         return None;
     };
     let Some(certificate) = registry.get(number) else {

@@ -6,73 +6,62 @@ ghost use Rattle.sheets.specs.Checking.{known_houses};
 ghost use Rattle.sheets.specs.Memory.{remembered};
 ghost use Rattle.sheets.specs.Reading.{houses_of, walked_by};
 
-use crate::reading::Line;
+use crate::line::Line;
+use crate::memory::Shown;
 use certificates::LAST_HOUSE;
 use facts::is_shown;
-use registry::Registry;
 
-// How many steps a line has: there is a house for each name.
-fn count_steps(line: &Line) -> usize
-    requires { line.now.certificate.subject.count ≤ 6 }
-    ensures value { result ≡ line.now.certificate.subject.count }
-    ensures houses { length (houses_of line.now) ≡ result }
-    ensures names { length (names_of line.now.certificate.subject) ≡ result }
-{
-    let count = usize::from(line.certificate.subject.count);
-    let names = &line.certificate.subject.names[0..count];
-    let houses = &line.houses.numbers[0..count];
-    names.len().min(houses.len())
-}
-
-// Whether there may be a house of this number.
+// Whether there may be a house of this number. It stands apart, so that an edit of the test is refused in its own line.
 fn is_house(number: u16) -> bool
     ensures { result ≡ nat_le number 1023 }
 {
     number <= LAST_HOUSE
 }
 
-// Whether no house of the line is above 1,023.
-pub(crate) fn known(line: &Line) -> bool
-    requires { line.now.certificate.subject.count ≤ 6 }
-    ensures value { result ≡ known_houses (houses_of line.now) }
-    ensures paired { length (names_of line.now.certificate.subject) ≡ length (houses_of line.now) }
-{
-    for i in 0..count_steps(line) {
-        if !is_house(line.houses.numbers[i]) {
-            return false;
+impl Line {
+    // The names of its certificate's subject.
+    fn names(&self) -> &[u16]
+        ensures { result.now ≡ names_of self.now.certificate.subject }
+    {
+        self.certificate.subject.names()
+    }
+
+    // The house reached after each of them.
+    fn houses(&self) -> &[u16]
+        ensures value { result.now ≡ houses_of self.now }
+        ensures few { length result.now ≤ 6 }
+    {
+        self.houses.front(self.certificate.subject.count)
+    }
+
+    // Whether no house of it is above 1,023.
+    pub(crate) fn known(&self) -> bool
+        ensures { result ≡ known_houses (houses_of self.now) }
+    {
+        self.houses().iter().all(|house| is_house(*house))
+    }
+}
+
+impl Shown<'_> {
+    // The next house, if it is shown that the house's name means it.
+    fn step(&self, house: u16, name: u16, next: u16) -> Option<u16>
+        ensures { result ≡ (if remembered (certificates_of self.now.registry.now) self.now.names.now house name next then Some next else None) }
+    {
+        let row = self.registry.row(house, name)?;
+        is_shown(self.names, row, next).then_some(next)
+    }
+
+    // Follows the steps: the last house reached, or the first step that is not shown, by its number, which `judge` puts into the fault.
+    pub(crate) fn walk(&self, line: &Line) -> Result<u16, u8>
+        ensures { result ≡ walked_by (remembered (certificates_of self.now.registry.now) self.now.names.now) line.now }
+    {
+        let mut at = line.certificate.subject.house;
+        for (step, (name, house)) in line.names().iter().zip(line.houses()).enumerate() {
+            let Some(reached) = self.step(at, *name, *house) else {
+                return Err(step as u8);
+            };
+            at = reached;
         }
+        Ok(at)
     }
-    true
-}
-
-// The next house, if it is shown that the house's name means it.
-fn step(registry: &Registry, names: &[u64], house: u16, name: u16, next: u16) -> Option<u16>
-    ensures { result ≡ (if remembered (certificates_of registry.now) names.now house name next then Some next else None) }
-{
-    let Some(row) = registry.row(house, name) else {
-        return None;
-    };
-    if is_shown(names, row, next) {
-        Some(next)
-    } else {
-        None
-    }
-}
-
-// Follows the steps: the last house reached, or the first step that is not shown.
-pub(crate) fn walk(registry: &Registry, names: &[u64], line: &Line) -> Result<u16, u8>
-    requires { line.now.certificate.subject.count ≤ 6 }
-    ensures { result ≡ walked_by (remembered (certificates_of registry.now) names.now) line.now }
-{
-    let subject = line.certificate.subject;
-    let mut at = subject.house;
-    for i in 0..subject.count {
-        let name = subject.names[usize::from(i)];
-        let house = line.houses.numbers[usize::from(i)];
-        let Some(reached) = step(registry, names, at, name, house) else {
-            return Err(i);
-        };
-        at = reached;
-    }
-    Ok(at)
 }

@@ -6,43 +6,45 @@ use sheets::checking::Question;
 use std::alloc::Global;
 use std::test::*;
 
-// The line numbers that are lent: one for each of 1,024 rows and houses.
+// The line numbers that are lent: one for each of 1,024 rows and houses. It stands here too, so that the tests hold the library to it.
 pub(crate) const NUMBERS: usize = 1048576;
 
-// Fails with the note where the fact does not hold.
+// Fails with the note where the fact does not hold: for helpers that have no runtime to assert with.
 pub(crate) fn check(holds: bool, note: &str) -> Result<(), Fail> {
     if holds { Ok(()) } else { Err(Fail::new(note)) }
 }
 
-// The set of right 3 alone.
-const RIGHT_3: u64 = 8;
+// Right 3 alone is given.
+fn right_3(delegable: bool) -> Statement {
+    Statement::Rights {
+        rights: 8,
+        delegable,
+    }
+}
+
+// Whoever is reached from a house by the first of six names.
+pub(crate) fn subject(house: u16, names: [u16; 6], count: u8) -> Subject {
+    Subject {
+        house,
+        names,
+        count,
+    }
+}
 
 // A house alone, or whoever is reached from it by one name, or by two.
 pub(crate) fn plain(house: u16) -> Subject {
-    Subject {
-        house,
-        names: [0, 0, 0, 0, 0, 0],
-        count: 0,
-    }
+    subject(house, [0; 6], 0)
 }
 
 pub(crate) fn by(house: u16, name: u16) -> Subject {
-    Subject {
-        house,
-        names: [name, 0, 0, 0, 0, 0],
-        count: 1,
-    }
+    subject(house, [name, 0, 0, 0, 0, 0], 1)
 }
 
 pub(crate) fn by_two(house: u16, name: u16, then: u16) -> Subject {
-    Subject {
-        house,
-        names: [name, then, 0, 0, 0, 0],
-        count: 2,
-    }
+    subject(house, [name, then, 0, 0, 0, 0], 2)
 }
 
-// A certificate valid from day 4 to day 9.
+// A certificate valid from day 4 to day 9. Issuer and subject are parts of what is made here, so they go side by side.
 pub(crate) fn certificate(issuer: u16, subject: Subject, statement: Statement) -> Certificate {
     Certificate {
         issuer,
@@ -59,22 +61,18 @@ pub(crate) fn names(issuer: u16, name: u16, subject: Subject) -> Certificate {
 
 // Right 3 given to be passed on, or to be had only.
 pub(crate) fn gives(issuer: u16, subject: Subject) -> Certificate {
-    let rights = RIGHT_3;
-    let delegable = true;
-    certificate(issuer, subject, Statement::Rights { rights, delegable })
+    certificate(issuer, subject, right_3(true))
 }
 
 pub(crate) fn gives_only(issuer: u16, subject: Subject) -> Certificate {
-    let rights = RIGHT_3;
-    let delegable = false;
-    certificate(issuer, subject, Statement::Rights { rights, delegable })
+    certificate(issuer, subject, right_3(false))
 }
 
 // The certificates, numbered as they stand.
 pub(crate) fn registry_of(heap: Global, certificates: &[Certificate]) -> Result<Registry, Fail> {
     let mut registry = Registry::new(heap)?;
     for certificate in certificates {
-        check(registry.issue(*certificate).is_ok(), "certificate refused")?;
+        registry.issue(*certificate)?;
     }
     Ok(registry)
 }
@@ -95,10 +93,7 @@ pub(crate) fn may(house: u16) -> Question {
 
 // The gate of house 1, as it begins.
 pub(crate) fn new_gate(heap: Global) -> Result<Gate, Fail> {
-    match Gate::new(heap, 1) {
-        Ok(gate) => Ok(gate),
-        Err(_) => Err(Fail::new("no gate")),
-    }
+    Ok(Gate::new(heap, 1)?)
 }
 
 // Deliveries as they come from files.

@@ -18,8 +18,8 @@ const PLAIN: [u8; 17] = [1, 0, 1, 0, 0, 0, 0, 0, 0, 0, 9, 0, 2, 0, 0, 0, 5];
 
 #[test]
 fn cut_anywhere(rt: HostRuntime) -> Result<(), Fail> {
-    for kept in 0..17 {
-        refused(&rt, &PLAIN[0..kept], 1, 0)?;
+    for kept in 0..PLAIN.len() {
+        refused(&rt, &PLAIN[..kept], 1, 0)?;
     }
     refused(&rt, b"\x02", 1, 0)?;
     refused(&rt, b"\x02\x00", 1, 0)
@@ -27,58 +27,36 @@ fn cut_anywhere(rt: HostRuntime) -> Result<(), Fail> {
 
 #[test]
 fn malformed(rt: HostRuntime) -> Result<(), Fail> {
-    // unknown kinds, then an unknown tag
-    refused(&rt, b"\x00\x03", 1, 0)?;
-    refused(&rt, b"\x04\x03", 1, 0)?;
-    refused(&rt, b"\xff\x03", 1, 0)?;
-    refused(
-        &rt,
+    let cases: [&[u8]; 5] = [
+        // unknown kinds, then an unknown tag
+        b"\x00\x03",
+        b"\x04\x03",
+        b"\xff\x03",
         b"\x01\x00\x01\x00\x00\x00\x00\x00\x00\x00\x09\x00\x02\x00\x03\x00\x05\x03",
-        1,
-        0,
-    )?;
-    // more names than there are bytes, though a house is out of range too
-    refused(
-        &rt,
+        // more names than there are bytes, though a house is out of range too
         b"\x01\xff\xff\x00\x00\x00\x00\x00\x00\x00\x09\x00\x02\xff\x00\x00\x05\x03",
-        1,
-        0,
-    )
+    ];
+    for bytes in cases {
+        refused(&rt, bytes, 1, 0)?;
+    }
+    Ok(())
 }
 
 #[test]
 fn out_of_range(rt: HostRuntime) -> Result<(), Fail> {
-    // house 1024 as issuer, then as subject; a day follows each
-    refused(
-        &rt,
+    // a day follows each
+    let cases: [&[u8]; 5] = [
+        // house 1024 as issuer, then as subject
         b"\x01\x04\x00\x00\x00\x00\x00\x00\x00\x00\x09\x00\x02\x00\x00\x00\x05\x03",
-        2,
-        1,
-    )?;
-    refused(
-        &rt,
         b"\x01\x00\x01\x00\x00\x00\x00\x00\x00\x00\x09\x04\x00\x00\x00\x00\x05\x03",
-        2,
-        1,
-    )?;
-    // seven names
-    refused(
-        &rt,
+        // seven names
         b"\x01\x00\x01\x00\x00\x00\x00\x00\x00\x00\x09\x00\x02\x07\x00\x01\x00\x02\x00\x03\x00\x04\x00\x05\x00\x06\x00\x07\x00\x00\x05\x03",
-        2,
-        1,
-    )?;
-    // no rights, with and without the flag
-    refused(
-        &rt,
+        // no rights, with and without the flag
         b"\x01\x00\x01\x00\x00\x00\x00\x00\x00\x00\x09\x00\x02\x00\x01\x00\x00\x00\x00\x00\x00\x00\x00\x03",
-        2,
-        1,
-    )?;
-    refused(
-        &rt,
         b"\x01\x00\x01\x00\x00\x00\x00\x00\x00\x00\x09\x00\x02\x00\x02\x00\x00\x00\x00\x00\x00\x00\x00\x03",
-        2,
-        1,
-    )
+    ];
+    for bytes in cases {
+        refused(&rt, bytes, 2, 1)?;
+    }
+    Ok(())
 }

@@ -44,9 +44,7 @@ impl Asked {
         let list = listed(heap, deliveries)?;
         let mut names = vec![in heap; u64::MAX; MEMORY_WORDS]?;
         let name_lines = vec![in heap; u32::MAX; NUMBERS]?;
-        let Ok((gate, _)) = receive_all(gate, heap, list.as_slice(), names.as_mut_slice()) else {
-            return Err(Fail::new("not taken"));
-        };
+        let (gate, _) = receive_all(gate, heap, list.as_slice(), names.as_mut_slice())?;
         Ok(Asked {
             heap,
             gate,
@@ -83,17 +81,14 @@ impl Asked {
 
     // The sheet that is found has the bytes that are meant.
     fn finds(&mut self, request: &[u8], meant: &[u8]) -> Result<(), Fail> {
-        let found = sheet_for(
+        let whole = sheet_for(
             self.heap,
             &self.gate,
             self.names.as_mut_slice(),
             self.name_lines.as_mut_slice(),
             request,
-        );
-        match found {
-            Ok(whole) => check(whole.as_slice() == meant, "another sheet"),
-            Err(_) => Err(Fail::new("no sheet")),
-        }
+        )?;
+        check(whole.as_slice() == meant, "another sheet")
     }
 }
 
@@ -128,9 +123,7 @@ fn sheet_opens(rt: HostRuntime) -> Result<(), Fail> {
     asked.finds(BY_OWNER, BY_OWNER)?;
     let whole = b"\x04\x00\x02\x03\x00\x00\x00\x01\x00\x00";
     asked.finds(BY_2, whole)?;
-    let Ok(answer) = asked.gate.answer(whole, asked.names.as_mut_slice()) else {
-        return Err(Fail::new("short memory"));
-    };
+    let answer = asked.gate.answer(whole, asked.names.as_mut_slice())?;
     let text = format!(in rt.alloc(); "{answer}")?;
     assert_eq!(rt; text.as_str(), "open");
     Ok(())

@@ -18,27 +18,20 @@ fn link(name: u16) -> Certificate {
 
 impl Finder {
     fn issue(&mut self, certificate: Certificate) -> Result<(), Fail> {
-        check(
-            self.registry.issue(certificate).is_ok(),
-            "certificate refused",
-        )
+        Ok(self.registry.issue(certificate)?)
     }
 
     // House 2 has the right by the first name, on a sheet of 1,001 lines, which holds.
     fn finds_chain(&mut self) -> Result<(), Fail> {
         self.issue(gives_only(1, by(1, 0)))?;
         let mut request = vec![in self.heap; 0; 4010]?;
-        let Ok(4010) = self.find(&may(2), request.as_mut_slice()) else {
-            return Err(Fail::new("no sheet, or of another length"));
-        };
+        let long = self.find(&may(2), request.as_mut_slice())?;
+        check(long == 4010, "of another length")?;
         let [_, _, _, _, 0, 0, 3, 233, lines @ ..] = request.as_slice() else {
             return Err(Fail::new("another number of lines"));
         };
         let memory = self.names.as_mut_slice();
-        let Ok(answer) = checking::check(&self.registry, &may(2), 1001, lines, memory) else {
-            return Err(Fail::new("short memory"));
-        };
-        check(answer.is_ok(), "refused")
+        Ok(checking::check(&self.registry, &may(2), 1001, lines, memory)??)
     }
 }
 

@@ -64,9 +64,7 @@ impl Finder {
     // The request is written as it is meant, and nothing behind it.
     fn written(&mut self, question: &Question, meant: &[u8]) -> Result<(), Fail> {
         let mut request = request_of(self.heap, b"")?;
-        let Ok(long) = self.find(question, request.as_mut_slice()) else {
-            return Err(Fail::new("no sheet"));
-        };
+        let long = self.find(question, request.as_mut_slice())?;
         check(long.checked_sub(4) == Some(meant.len()), "another length")?;
         let whole = request_of(self.heap, meant)?;
         check(request.as_slice() == whole.as_slice(), "another request")
@@ -78,10 +76,7 @@ impl Finder {
         };
         let count = u32::from(*count);
         let memory = self.names.as_mut_slice();
-        let Ok(answer) = checking::check(&self.registry, question, count, lines, memory) else {
-            return Err(Fail::new("short memory"));
-        };
-        check(answer.is_ok(), "refused")
+        Ok(checking::check(&self.registry, question, count, lines, memory)??)
     }
 
     // The number of lines and the lines that are written, which hold.
@@ -93,9 +88,11 @@ impl Finder {
     // The house may not, and the request is left as it was.
     pub(crate) fn finds_none(&mut self, question: Question) -> Result<(), Fail> {
         let mut request = request_of(self.heap, b"")?;
-        let Err(Unfound::NoSheet) = self.find(&question, request.as_mut_slice()) else {
-            return Err(Fail::new("a sheet, or another refusal"));
-        };
+        let found = self.find(&question, request.as_mut_slice());
+        check(
+            found == Err(Unfound::NoSheet),
+            "a sheet, or another refusal",
+        )?;
         let before = request_of(self.heap, b"")?;
         check(request.as_slice() == before.as_slice(), "request written")
     }
@@ -130,7 +127,7 @@ fn rings(rt: HostRuntime) -> Result<(), Fail> {
     ];
     let mut finder = Finder::new(rt.alloc(), &two)?;
     finder.finds_none(may(4))?;
-    assert!(rt; finder.registry.issue(names(2, 5, plain(4))).is_ok());
+    finder.registry.issue(names(2, 5, plain(4)))?;
     let lines = b"\x00\x00\x00\x03\x00\x03\x00\x00\x00\x04\x00\x02\x00\x04";
     finder.finds(may(4), lines)?;
     // the same with three
@@ -142,7 +139,7 @@ fn rings(rt: HostRuntime) -> Result<(), Fail> {
     ];
     let mut finder = Finder::new(rt.alloc(), &three)?;
     finder.finds_none(may(4))?;
-    assert!(rt; finder.registry.issue(names(3, 5, plain(4))).is_ok());
+    finder.registry.issue(names(3, 5, plain(4)))?;
     let lines = b"\x00\x00\x00\x04\x00\x04\x00\x01\x00\x04\x00\x00\x00\x04\x00\x03\x00\x04";
     finder.finds(may(4), lines)
 }
@@ -179,9 +176,9 @@ fn taken_back(rt: HostRuntime) -> Result<(), Fail> {
     let both = [gives_only(1, plain(2)), gives(1, plain(2))];
     let mut finder = Finder::new(rt.alloc(), &both)?;
     finder.finds(may(2), b"\x00\x00\x00\x01\x00\x01")?;
-    assert!(rt; finder.registry.revoke(1).is_ok());
+    finder.registry.revoke(1)?;
     finder.finds(may(2), b"\x00\x00\x00\x01\x00\x00")?;
-    assert!(rt; finder.registry.revoke(0).is_ok());
+    finder.registry.revoke(0)?;
     finder.finds_none(may(2))
 }
 
@@ -190,15 +187,11 @@ fn too_short(rt: HostRuntime) -> Result<(), Fail> {
     let mut finder = Finder::new(rt.alloc(), &[names(1, 5, plain(2)), gives(1, by(1, 5))])?;
     // one byte too few of fourteen, then no head
     let mut request = [FREE; 13];
-    let Err(Unfound::TooShort { needed }) = finder.find(&may(2), &mut request) else {
-        return Err(Fail::new("not too short"));
-    };
-    assert_eq!(rt; needed, 14);
-    assert!(rt; request == [FREE; 13], "request written");
-    let Err(Unfound::TooShort { needed }) = finder.find(&may(1), &mut []) else {
-        return Err(Fail::new("a head in no bytes"));
-    };
-    assert_eq!(rt; needed, 8);
+    let found = finder.find(&may(2), &mut request);
+    assert_eq!(rt; found, Err(Unfound::TooShort { needed: 14 }));
+    assert_eq!(rt; request, [FREE; 13]);
+    let found = finder.find(&may(1), &mut []);
+    assert_eq!(rt; found, Err(Unfound::TooShort { needed: 8 }));
     Ok(())
 }
 
@@ -208,17 +201,21 @@ fn wrong_size(rt: &impl Abort, heap: Global, words: usize, numbers: usize) -> Re
     finder.names.resize(words, 0)?;
     finder.name_lines.resize(numbers, 0)?;
     let mut request = [FREE; 8];
-    let Err(Unfound::WrongSize) = finder.find(&may(1), &mut request) else {
-        return Err(Fail::new("taken"));
-    };
-    assert!(rt; request == [FREE; 8], "request written");
+    let found = finder.find(&may(1), &mut request);
+    assert_eq!(rt; found, Err(Unfound::WrongSize));
+    assert_eq!(rt; request, [FREE; 8]);
     Ok(())
 }
 
 #[test]
 fn memory_of_another_size(rt: HostRuntime) -> Result<(), Fail> {
-    wrong_size(&rt, rt.alloc(), MEMORY_WORDS - 1, NUMBERS)?;
-    wrong_size(&rt, rt.alloc(), MEMORY_WORDS + 1, NUMBERS)?;
-    wrong_size(&rt, rt.alloc(), MEMORY_WORDS, NUMBERS - 1)?;
-    wrong_size(&rt, rt.alloc(), MEMORY_WORDS, NUMBERS + 1)
+    for (words, numbers) in [
+        (MEMORY_WORDS - 1, NUMBERS),
+        (MEMORY_WORDS + 1, NUMBERS),
+        (MEMORY_WORDS, NUMBERS - 1),
+        (MEMORY_WORDS, NUMBERS + 1),
+    ] {
+        wrong_size(&rt, rt.alloc(), words, numbers)?;
+    }
+    Ok(())
 }

@@ -1,22 +1,18 @@
 // Ways found by facts in memory: the least steps where several lead to a house, and houses to skip.
-use certificates::{Certificate, Statement, Subject};
+use crate::building::{registry_of, subject};
+use certificates::{Certificate, Statement};
 use facts::{is_shown, show};
 use frontier::Ways;
 use registry::Registry;
 use sheets::checking::MEMORY_WORDS;
 use std::alloc::Global;
-use std::process::Abort;
 use std::test::*;
 
-// A certificate by which a name of the issuer stands for a house's names.
+// A certificate by which a name of the issuer stands for a house's names. It is valid from day 0, unlike those that other tests build.
 fn names(issuer: u16, name: u16, house: u16, names: [u16; 6], count: u8) -> Certificate {
     Certificate {
         issuer,
-        subject: Subject {
-            house,
-            names,
-            count,
-        },
+        subject: subject(house, names, count),
         first: 0,
         last: 9,
         statement: Statement::Name(name),
@@ -24,12 +20,11 @@ fn names(issuer: u16, name: u16, house: u16, names: [u16; 6], count: u8) -> Cert
 }
 
 // The rows are: name 5 of house 1, name 6 of house 2, name 6 of house 7.
-fn registry_of(rt: &impl Abort, heap: Global) -> Result<Registry, Fail> {
-    let mut registry = Registry::new(heap)?;
-    for (issuer, name) in [(1, 5), (2, 6), (7, 6)] {
-        assert!(rt; registry.issue(names(issuer, name, 9, [0; 6], 0)).is_ok());
-    }
-    Ok(registry)
+fn rows_of(heap: Global) -> Result<Registry, Fail> {
+    let certificates = [(1, 5), (2, 6), (7, 6)].map(|(issuer, name)| names(
+        issuer, name, 9, [0; 6], 0,
+    ));
+    registry_of(heap, &certificates)
 }
 
 // House 1's 5 means 2 and 7, 2's 6 means 64 and 900, and 7's 6 means 3 and 64.
@@ -44,7 +39,7 @@ fn memory_of(heap: Global) -> Result<Vec<u64>, Fail> {
 #[test]
 fn least_steps(rt: HostRuntime) -> Result<(), Fail> {
     let heap = rt.alloc();
-    let registry = registry_of(&rt, heap)?;
+    let registry = rows_of(heap)?;
     let memory = memory_of(heap)?;
     let mut ways = Ways::new(heap)?;
     let certificate = names(4, 4, 1, [5, 6, 0, 0, 0, 0], 2);
@@ -64,7 +59,7 @@ fn least_steps(rt: HostRuntime) -> Result<(), Fail> {
 #[test]
 fn no_names(rt: HostRuntime) -> Result<(), Fail> {
     let heap = rt.alloc();
-    let registry = registry_of(&rt, heap)?;
+    let registry = rows_of(heap)?;
     let memory = memory_of(heap)?;
     let mut ways = Ways::new(heap)?;
     let certificate = names(4, 4, 1023, [0; 6], 0);

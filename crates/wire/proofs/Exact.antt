@@ -102,6 +102,10 @@ exactly s small =
       stops = stop_read s so;
     }
 
+-- a slice of bytes is a list of bytes
+pub bytes_of_slice : (d : List ℕ) → ((i : ℕ) → Fits w8 (get_or d i 0)) → AllByRecursion (λ b. b < 256) d
+bytes_of_slice d fits = All-from_get_or (λ b. b < 256) d 0 (λ i h. (fits i).fits)
+
 -- the same of any answer that is what reading gives
 pub exactly_read : (s : List ℕ) (r : Reading) → ((i : ℕ) → Fits w8 (get_or s i 0)) → r ≡ event_read s → Exactly s r
-exactly_read s r small is = rw is (exactly s (All-from_get_or (λ b. b < 256) s 0 (λ i h. (small i).fits)))
+exactly_read s r small is = rw is (exactly s (bytes_of_slice s small))

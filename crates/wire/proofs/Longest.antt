@@ -19,7 +19,7 @@ use Rattle.wire.specs.declared.events.Event.TheVariants.{Issued, Revoked, DayPas
 use Rattle.wire.specs.declared.faults.Fault.{Fault}
 use Rattle.wire.specs.declared.faults.Fault.TheVariants.{Malformed, OutOfRange}
 
-names_length : (names : List ℕ) → length (flat_map (bytes 2) names) ≡ 2 * length names
+pub names_length : (names : List ℕ) → length (flat_map (bytes 2) names) ≡ 2 * length names
 names_length [] = refl
 names_length (n ∷ names) =
     omega (arith, length-append (bytes 2 n) (flat_map (bytes 2) names), length_bytes 2 n, names_length names)

@@ -1,6 +1,7 @@
 -- Numbers read one after the other into six places. Assumes nothing.
-use Rattle.std.proofs.Common.{◌≡◌, ℕ, zero, suc, ◌+◌, ◌-◌, ◌<◌, ◌≤◌, Bool, true, false, cond, ltb, List, [], ◌∷◌, ◌++◌, length, take, set, replicate, Some, None, sym, refl, ap, ◌∙◌, append_assoc, append-nil, arith, length-append}
-use Rattle.std.proofs.lemmas.Bool.{ltb-true, ltb-false}
+use Rattle.std.proofs.Common.{◌≡◌, ℕ, zero, suc, ◌+◌, ◌-◌, ◌<◌, ◌≤◌, List, [], ◌∷◌, ◌++◌, length, take, set, replicate, Some, None, sym, refl, ap, ◌∙◌, ⊎_elim, append_assoc, append-nil, arith, length-append}
+use Rattle.std.proofs.lemmas.Bool.{cases_lt}
+use Rattle.std.proofs.lemmas.List.{length-take, set_past}
 use Rattle.wire.specs.Numbers.{Taken, take_number, and_then}
 use Rattle.wire.specs.Numbers.{take_numbers, places, keep_six}
 use Rattle.wire.specs.declared.numbers.Six.{Six}
@@ -22,60 +23,71 @@ placed_in done n h =
     ∙ ap (take 6) (append_assoc done (n ∷ replicate 5 0) (0 ∷ []) ∙ sym (append_assoc done (n ∷ []) (replicate 6 0))))
 
 -- a later one has no place
-placed_past : (done : List ℕ) (n : ℕ) → 6 ≤ length done → places done ≡ places (done ++ (n ∷ []))
+placed_past : (done : List ℕ) (n : ℕ) → 6 ≤ length done → set (places done) (length done) n ≡ places (done ++ (n ∷ []))
 placed_past done n h =
-    take-append-le 6 done (replicate 6 0) h
+    set_past (places done) (length done) n (omega (arith, length-take 6 (done ++ replicate 6 0)))
+    ∙ (take-append-le 6 done (replicate 6 0) h
     ∙ (sym (take-append-le 6 done (n ∷ replicate 6 0) h)
-    ∙ ap (take 6) (sym (append_assoc done (n ∷ []) (replicate 6 0))))
+    ∙ ap (take 6) (sym (append_assoc done (n ∷ []) (replicate 6 0)))))
 
 -- what is put into its place, if it has one
-pub placed : (done : List ℕ) (n : ℕ) → cond (ltb (length done) 6) (set (places done) (length done) n) (places done) ≡ places (done ++ (n ∷ []))
-placed done n = go (ltb (length done) 6) refl
+placed : (done : List ℕ) (n : ℕ) → set (places done) (length done) n ≡ places (done ++ (n ∷ []))
+placed done n = ⊎_elim (placed_in done n) (placed_past done n) (cases_lt (length done) 6)
+
+-- the numbers so far, with those that are taken next
+with_done : List ℕ → Taken (List ℕ) → Taken Six
+with_done done t = and_then t λ numbers rest. keep_six (done ++ numbers) rest
+
+-- what is read from here on: so many more numbers, the first of them for this place of the array
+unfoldable pub onward : ℕ → ℕ → List ℕ → List ℕ → Taken Six
+onward zero place array s = Some (record { numbers = array }, s)
+onward (suc left) place array s =
+    and_then (take_number 2 s) λ n rest. onward left (place + 1) (set array place n) rest
+
+onward_done : (left : ℕ) (done s : List ℕ) → onward left (length done) (places done) s ≡ with_done done (take_numbers left s)
+unfolding onward take_numbers with_done
+onward_done zero done s = rw (append-nil done) refl
+onward_done (suc left) done s = next (onward_done left) (take_number 2 s)
   where
-    go : (b : Bool) → ltb (length done) 6 ≡ b → cond b (set (places done) (length done) n) (places done) ≡ places (done ++ (n ∷ []))
-    go true within = placed_in done n (ltb-true (length done) 6 within)
-    go false past = placed_past done n (ltb-false (length done) 6 past)
+    taken : (n : ℕ) (t : Taken (List ℕ)) →
+        with_done (done ++ (n ∷ [])) t ≡ with_done done (and_then t λ numbers after. Some (n ∷ numbers, after))
+    taken n None = refl
+    taken n (Some p) = rw (append_assoc done (n ∷ []) p.0) refl
 
-module _ (count : ℕ) where
-  -- the numbers taken so far, with those that are taken next
-  abbrev pub with_done : List ℕ → Taken (List ℕ) → Taken Six
-  with_done done t = and_then t λ numbers rest. keep_six (done ++ numbers) rest
+    next : ((done s : List ℕ) → onward left (length done) (places done) s ≡ with_done done (take_numbers left s)) → (t : Taken ℕ) →
+        (and_then t λ n rest. onward left (length done + 1) (set (places done) (length done) n) rest)
+        ≡ with_done done (and_then t λ n rest. and_then (take_numbers left rest) λ numbers behind. Some (n ∷ numbers, behind))
+    next others None = refl
+    next others (Some p) =
+        let long : length done + 1 ≡ length (done ++ (p.0 ∷ [])) = simp length-append (omega arith) in
+        rw (long, placed done p.0) (others (done ++ (p.0 ∷ [])) p.1 ∙ taken p.0 (take_numbers left p.1))
 
-  -- after i turns: the array holds the numbers so far, and what is left gives the same as the whole
-  pub record SoFar (s : List ℕ) (i : ℕ) (array rest : List ℕ) : Type 0 where
-    pub done : List ℕ
-    pub many : length done ≡ i
-    pub holds : array ≡ places done
-    pub same : and_then (take_numbers count s) keep_six ≡ with_done done (take_numbers (count - i) rest)
+-- the same before a place, with as many numbers left as there are in all behind it
+unfoldable pub from_place : ℕ → ℕ → List ℕ → List ℕ → Taken Six
+from_place count place array s = onward (count - place) place array s
 
-  pub all_read : {s array rest : List ℕ} {i : ℕ} → SoFar s i array rest → count ≤ i →
-      Some (record { numbers = array }, rest) ≡ and_then (take_numbers count s) keep_six
-  unfolding take_numbers
-  all_read {s} {array} {rest} {i} so all =
-      let none_left : count - i ≡ 0 = omega arith in
-      sym (so.same ∙ rw (none_left, append-nil so.done, sym so.holds))
+-- at the first place nothing is in the array yet
+pub start : (count : ℕ) (s : List ℕ) → from_place count 0 (replicate 6 0) s ≡ and_then (take_numbers count s) keep_six
+unfolding from_place with_done
+start count s = let all : count - 0 ≡ count = omega arith in rw all (onward_done count [] s)
 
-  pub cut_short : {s array rest : List ℕ} {i : ℕ} → SoFar s i array rest → i < count → None ≡ take_number 2 rest →
-      None ≡ and_then (take_numbers count s) keep_six
-  unfolding take_numbers
-  cut_short {s} {array} {rest} {i} so more short =
-      let left : count - i ≡ suc (count - i - 1) = omega arith in
-      sym (so.same ∙ rw (left, sym short))
+-- past the last number the array is what was read
+pub at_end : (count place : ℕ) (array s : List ℕ) → count ≤ place → from_place count place array s ≡ Some (record { numbers = array }, s)
+unfolding from_place onward
+at_end count place array s all = let none_left : count - place ≡ 0 = omega arith in rw none_left refl
 
-  -- one number more, which the array holds too if it has a place
-  pub one_more : {s array rest behind : List ℕ} {i n : ℕ} (more : List ℕ) (so : SoFar s i array rest) → i < count → Some (n, behind) ≡ take_number 2 rest →
-      more ≡ places (so.done ++ (n ∷ [])) → SoFar s (i + 1) more behind
-  unfolding take_numbers
-  one_more {s} {array} {rest} {behind} {i} {n} more so below taken holds =
-      let left : count - i ≡ suc (count - (i + 1)) = omega arith in
-      record {
-        done = so.done ++ (n ∷ []);
-        many = simp length-append (omega (arith, so.many));
-        holds = holds;
-        same = so.same ∙ rw (left, sym taken) (onward (take_numbers (count - (i + 1)) behind));
-      }
-    where
-      onward : (t : Taken (List ℕ)) →
-          with_done so.done (and_then t λ numbers after. Some (n ∷ numbers, after)) ≡ with_done (so.done ++ (n ∷ [])) t
-      onward None = refl
-      onward (Some p) = rw (append_assoc so.done (n ∷ []) p.0)
+-- where the bytes end too early nothing is read
+pub cut_short : (count place : ℕ) (array s : List ℕ) → place < count → None ≡ take_number 2 s → from_place count place array s ≡ None
+unfolding from_place onward
+cut_short count place array s more short =
+    let left : count - place ≡ suc (count - place - 1) = omega arith in rw (left, sym short) refl
+
+-- one number more, put into its place if it has one
+pub one_more : (count place : ℕ) (array s : List ℕ) → place < count →
+    from_place count place array s ≡ and_then (take_number 2 s) λ n rest. from_place count (place + 1) (set array place n) rest
+unfolding from_place onward
+one_more count place array s more =
+    let left : count - place ≡ suc (count - (place + 1)) = omega arith in rw left refl
+
+-- the loop that reads them
+pub ruleset each_number = (start, at_end, cut_short, one_more)

@@ -38,3 +38,7 @@ keep_six numbers rest = Some (record { numbers = places numbers }, rest)
 -- a reader's answer, with its part of the slice as a list
 abbrev pub split : {A : Type 0} → Option (A × Bor (List ℕ)) → Taken A
 split r = option_map (λ p. (p.0, p.1.now)) r
+
+-- the same with the value of what was read
+abbrev pub split_by : {A : Type 0} → (A → ℕ) → Option (A × Bor (List ℕ)) → Taken ℕ
+split_by value r = option_map (λ p. (value p.0, p.1.now)) r

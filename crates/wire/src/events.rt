@@ -1,7 +1,7 @@
 // What happens at a gate.
 use certificates::Certificate;
 
-#[derive(Clone, Copy)]
+#[derive(Clone, Copy, Debug, PartialEq, Eq)]
 pub enum Event {
     // a certificate comes
     Issued(Certificate),

@@ -4,7 +4,7 @@ ghost use Rattle.wire.specs.Faults.{told_of, text_of};
 
 use std::fmt;
 
-#[derive(Clone, Copy)]
+#[derive(Clone, Copy, Debug, PartialEq, Eq)]
 pub enum Fault {
     // an unknown kind or tag, or bytes that end too early: the event's length can't be known
     Malformed,
@@ -39,7 +39,7 @@ pub enum Fault {
 }
 
 // What is told of a fault: its number, and its line and step where it has them. Lines and steps count from 0.
-#[derive(Clone, Copy)]
+#[derive(Clone, Copy, Debug, PartialEq, Eq)]
 pub struct Told {
     pub number: u8,
     pub line: Option<u32>,
@@ -47,6 +47,8 @@ pub struct Told {
 }
 
 impl Fault {
+    // What is told of it; the same reason has the same number, of an event and of a line.
+    // A method and no `From`: the numbers stand here, beside the cases that they are told of.
     pub fn told(self) -> Told
         ensures { result ≡ told_of self }
     {

@@ -5,4 +5,5 @@ pub mod events;
 pub mod faults;
 pub mod laws;
 pub mod numbers;
+pub mod places;
 pub mod reading;

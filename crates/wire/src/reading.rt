@@ -1,4 +1,5 @@
 // Events from bytes. An event is framed first, that is, its kind and length are settled; then its values are looked at.
+// A reader's answer is taken apart by `let .. else`, so that what a missing part leads to stands beside it.
 ghost use Rattle.wire.specs.Exact.{Exactly};
 ghost use Rattle.wire.specs.Numbers.{split};
 ghost use Rattle.wire.specs.Reading.{take_subject, take_statement, take_rights, frame, looked, event_read, reading_of};
@@ -6,7 +7,7 @@ ghost use Rattle.std.specs.Prelude.{◌≡◌};
 
 use crate::events::Event;
 use crate::faults::Fault;
-use crate::numbers::{read_u8, read_u16, read_u16s, read_u32, read_u64};
+use crate::numbers::{read, read_u16s};
 use certificates::{Certificate, Statement, Subject};
 
 // An event that is refused: why, and what is still read of the delivery.
@@ -17,16 +18,16 @@ pub struct Refusal<'a> {
     pub rest: &'a [u8],
 }
 
-// What a certificate says: a tag, then a name or a set of rights.
+// What a certificate says: a tag, then a name or a set of rights. Tags are matched as numbers, a rule of the project; `writing` has the same ones.
 fn read_statement(bytes: &[u8]) -> Option<(Statement, &[u8])>
     ensures { split result ≡ take_statement bytes.now }
 {
-    let Some((tag, rest)) = read_u8(bytes) else {
+    let Some((tag, rest)) = read::<u8, 1>(bytes) else {
         return None;
     };
     match tag {
         0 => {
-            let Some((name, rest)) = read_u16(rest) else {
+            let Some((name, rest)) = read::<u16, 2>(rest) else {
                 return None;
             };
             Some((Statement::Name(name), rest))
@@ -37,22 +38,24 @@ fn read_statement(bytes: &[u8]) -> Option<(Statement, &[u8])>
     }
 }
 
+// A set of rights, which may be passed on or not.
 fn read_rights(bytes: &[u8], delegable: bool) -> Option<(Statement, &[u8])>
     ensures { split result ≡ take_rights bytes.now delegable }
 {
-    let Some((rights, rest)) = read_u64(bytes) else {
+    let Some((rights, rest)) = read::<u64, 8>(bytes) else {
         return None;
     };
     Some((Statement::Rights { rights, delegable }, rest))
 }
 
+// Whom a certificate speaks of: a house, how many names follow it, and these.
 fn read_subject(bytes: &[u8]) -> Option<(Subject, &[u8])>
     ensures { split result ≡ take_subject bytes.now }
 {
-    let Some((house, rest)) = read_u16(bytes) else {
+    let Some((house, rest)) = read::<u16, 2>(bytes) else {
         return None;
     };
-    let Some((count, rest)) = read_u8(rest) else {
+    let Some((count, rest)) = read::<u8, 1>(rest) else {
         return None;
     };
     let Some((six, rest)) = read_u16s(count, rest) else {
@@ -73,13 +76,13 @@ fn read_subject(bytes: &[u8]) -> Option<(Subject, &[u8])>
 fn frame_certificate(bytes: &[u8]) -> Option<(Certificate, &[u8])>
     ensures { split result ≡ frame bytes.now }
 {
-    let Some((issuer, rest)) = read_u16(bytes) else {
+    let Some((issuer, rest)) = read::<u16, 2>(bytes) else {
         return None;
     };
-    let Some((first, rest)) = read_u32(rest) else {
+    let Some((first, rest)) = read::<u32, 4>(rest) else {
         return None;
     };
-    let Some((last, rest)) = read_u32(rest) else {
+    let Some((last, rest)) = read::<u32, 4>(rest) else {
         return None;
     };
     let Some((subject, rest)) = read_subject(rest) else {
@@ -98,6 +101,7 @@ fn frame_certificate(bytes: &[u8]) -> Option<(Certificate, &[u8])>
     Some((certificate, rest))
 }
 
+// A certificate, its values looked at.
 fn read_certificate(bytes: &[u8]) -> Result<(Event, &[u8]), Refusal<'_>>
     ensures { reading_of result ≡ looked (frame bytes.now) }
 {
@@ -117,7 +121,8 @@ fn read_certificate(bytes: &[u8]) -> Result<(Event, &[u8]), Refusal<'_>>
     }
 }
 
-// The next event and what follows it, or why it is refused.
+// The next event and what follows it, or why it is refused. Kinds are matched as numbers, as tags are.
+#[tactic(auto, using(crate::proofs::Exact::exactly_read))]
 pub fn read_event(bytes: &[u8]) -> Result<(Event, &[u8]), Refusal<'_>>
     ensures value { reading_of result ≡ event_read bytes.now }
     ensures exact { Exactly bytes.now (reading_of result) }
@@ -126,13 +131,13 @@ pub fn read_event(bytes: &[u8]) -> Result<(Event, &[u8]), Refusal<'_>>
         fault: Fault::Malformed,
         rest: &[],
     };
-    let Some((kind, rest)) = read_u8(bytes) else {
+    let Some((kind, rest)) = read::<u8, 1>(bytes) else {
         return Err(stopped);
     };
     match kind {
         1 => read_certificate(rest),
         2 => {
-            let Some((number, rest)) = read_u16(rest) else {
+            let Some((number, rest)) = read::<u16, 2>(rest) else {
                 return Err(stopped);
             };
             Ok((Event::Revoked(number), rest))

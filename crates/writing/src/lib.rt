@@ -1,4 +1,4 @@
-// Events as bytes.
+// Events as bytes. Kinds and tags are numbers, as in the reader's `match`.
 #![tactic(auto)]
 
 ghost use Rattle.std.specs.List.{flat_map};
@@ -6,69 +6,65 @@ ghost use Rattle.std.specs.Prelude.{◌≡◌, ◌++◌, is_ok, IfOk, if◌then�
 ghost use Rattle.wire.specs.Format.{subject_bytes, statement_bytes, certificate_bytes, bytes_of_event};
 ghost use Rattle.wire.specs.Numbers.{bytes};
 
-use certificates::{Certificate, MOST_NAMES, Statement, Subject};
+use certificates::{Certificate, Statement, Subject};
 use std::alloc::{AllocError, Global};
 use wire::events::Event;
+use wire::numbers::Number;
 
-fn push_u16(out: &mut Vec<u8>, n: u16) -> Result<(), AllocError>
-    ensures { out.new.items ≡ (if is_ok result then out.old.items ++ bytes 2 n else out.old.items) }
+// Writes a number at the end of `out`.
+fn push_number<N: Number<BYTES>, const BYTES: usize>(
+    out: &mut Vec<u8>,
+    number: N,
+) -> Result<(), AllocError>
+    ensures { out.new.items ≡ (if is_ok result then out.old.items ++ bytes BYTES (N.value number) else out.old.items) }
 {
-    out.extend_from_slice(&n.to_be_bytes())
+    out.extend_from_slice(&number.to_be_bytes())
 }
 
-fn push_u32(out: &mut Vec<u8>, n: u32) -> Result<(), AllocError>
-    ensures { out.new.items ≡ (if is_ok result then out.old.items ++ bytes 4 n else out.old.items) }
-{
-    out.extend_from_slice(&n.to_be_bytes())
-}
-
-fn push_u64(out: &mut Vec<u8>, n: u64) -> Result<(), AllocError>
-    ensures { out.new.items ≡ (if is_ok result then out.old.items ++ bytes 8 n else out.old.items) }
-{
-    out.extend_from_slice(&n.to_be_bytes())
-}
-
+// Writes names, two bytes each.
 fn push_names(out: &mut Vec<u8>, names: &[u16]) -> Result<(), AllocError>
     ensures { OnOk result (out.new.items ≡ out.old.items ++ flat_map (bytes 2) names.now) }
 {
     for name in names {
-        push_u16(out, *name)?;
+        push_number(out, *name)?;
     }
     Ok(())
 }
 
+// Writes a subject: its house, how many names it has, and these.
 fn push_subject(out: &mut Vec<u8>, subject: &Subject) -> Result<(), AllocError>
     ensures { OnOk result (out.new.items ≡ out.old.items ++ subject_bytes subject.now) }
 {
-    let many = usize::from(subject.count).min(MOST_NAMES);
-    push_u16(out, subject.house)?;
+    push_number(out, subject.house)?;
     out.push(subject.count)?;
-    push_names(out, &subject.names[0..many])?;
+    push_names(out, subject.names())?;
     Ok(())
 }
 
+// Writes a statement: its tag, then a name or a set of rights.
 fn push_statement(out: &mut Vec<u8>, statement: Statement) -> Result<(), AllocError>
     ensures { OnOk result (out.new.items ≡ out.old.items ++ statement_bytes statement) }
 {
     match statement {
         Statement::Name(name) => {
             out.push(0)?;
-            push_u16(out, name)?;
+            push_number(out, name)?;
         }
         Statement::Rights { rights, delegable } => {
             out.push(if delegable { 2 } else { 1 })?;
-            push_u64(out, rights)?;
+            push_number(out, rights)?;
         }
     }
     Ok(())
 }
 
+// Writes a certificate, without the kind of its event.
 fn push_certificate(out: &mut Vec<u8>, certificate: &Certificate) -> Result<(), AllocError>
     ensures { OnOk result (out.new.items ≡ out.old.items ++ certificate_bytes certificate.now) }
 {
-    push_u16(out, certificate.issuer)?;
-    push_u32(out, certificate.first)?;
-    push_u32(out, certificate.last)?;
+    push_number(out, certificate.issuer)?;
+    push_number(out, certificate.first)?;
+    push_number(out, certificate.last)?;
     push_subject(out, &certificate.subject)?;
     push_statement(out, certificate.statement)?;
     Ok(())
@@ -86,7 +82,7 @@ pub fn event_bytes(heap: Global, event: &Event) -> Result<Vec<u8>, AllocError>
         }
         Event::Revoked(number) => {
             out.push(2)?;
-            push_u16(&mut out, *number)?;
+            push_number(&mut out, *number)?;
         }
         Event::DayPassed => out.push(3)?,
     }

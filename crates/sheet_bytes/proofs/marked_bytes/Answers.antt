@@ -1,27 +1,48 @@
 use Rattle.registry.specs.Numbered.{certificates_of}
-use Rattle.sheet_bytes.proofs.Sizes.{counted_none, counted_more, counted_all}
+use Rattle.sheet_bytes.proofs.Written.{bytes_left, left_marked, left_unmarked, left_fewer, left_none}
 use Rattle.sheet_bytes.proofs.marked_bytes.Goals as goal
-use Rattle.std.proofs.lemmas.List.{length-map}
-use Rattle.turns.specs.Found.{line_of, lines_found}
-use Rattle.std.proofs.Common.{arith}
+use Rattle.sheets.specs.Bytes.{line_bytes}
+use Rattle.std.proofs.Common.{length, ap, arith}
+use Rattle.std.proofs.lemmas.List.{length-append}
+use Rattle.turns.specs.Found.{line_of}
 
-pub overflow_add-bytes : goal.overflow_add-bytes
-overflow_add-bytes c = omega arith
-
-pub loop-i-init : goal.loop-i-init
-loop-i-init c = counted_none c.args.marks.now (lines_found (certificates_of c.args.registry.now) c.args.found.now)
-
-pub loop-i-preserved : goal.loop-i-preserved
-loop-i-preserved c =
+pub loop-line-preserved-then-mark : goal.loop-line-preserved-then-mark
+loop-line-preserved-then-mark c =
     let cs = certificates_of c.args.registry.now in
-    counted_more c.args.marks.now (lines_found cs c.args.found.now) c.loop-i.i c.loop-i.bytes c.bytes_at-bytes.result
-    (omega (arith, length-map c.args.found.now (line_of cs))) c.loop-i.invariant c.bytes_at-bytes.ensures.value c.bytes_at-bytes.ensures.few
-
-pub returns : goal.returns
-returns c =
-    let cs = certificates_of c.args.registry.now in
+    let more = left_marked cs c.loop-line.line-iterator c.next.new.self c.next.result c.in-Some.line c.in-Some.mark c.in-Some.is c.next.ensures.steps c.if-mark.true in
     record {
-      few = omega (arith, c.loop-i.invariant.few);
-      value = counted_all c.args.marks.now (lines_found cs c.args.found.now) c.loop-i.i c.loop-i.bytes
-          (omega (arith, length-map c.args.found.now (line_of cs))) c.loop-i.invariant;
+      all = omega (
+        arith,
+        c.loop-line.invariant.all,
+        ap length more,
+        length-append (line_bytes (line_of cs c.in-Some.line.now)) (bytes_left cs c.next.new.self),
+        c.bytes_of_line-bytes.ensures.value,
+      );
+      few = omega (
+        arith,
+        c.loop-line.invariant.few,
+        c.bytes_of_line-bytes.ensures.few,
+        left_fewer cs c.loop-line.line-iterator c.next.new.self c.next.result c.in-Some.line c.in-Some.mark c.in-Some.is c.next.ensures.steps,
+      );
     }
+
+pub loop-line-preserved : goal.loop-line-preserved
+loop-line-preserved c =
+    let cs = certificates_of c.args.registry.now in
+    let more = left_unmarked cs c.loop-line.line-iterator c.next.new.self c.next.result c.in-Some.line c.in-Some.mark c.in-Some.is c.next.ensures.steps c.if-mark.false in
+    record {
+      all = omega (arith, c.loop-line.invariant.all, ap length more);
+      few = omega (
+        arith,
+        c.loop-line.invariant.few,
+        left_fewer cs c.loop-line.line-iterator c.next.new.self c.next.result c.in-Some.line c.in-Some.mark c.in-Some.is c.next.ensures.steps,
+      );
+    }
+
+pub returns-clause-value : goal.returns-clause-value
+returns-clause-value c =
+    omega (
+      arith,
+      c.loop-line.invariant.all,
+      ap length (left_none (certificates_of c.args.registry.now) c.loop-line.line-iterator c.next.new.self c.next.result c.in-None.is c.next.ensures.steps),
+    )

@@ -1,7 +1,17 @@
 use Rattle.registry.specs.Numbered.{certificates_of}
-use Rattle.sheet_bytes.proofs.Sizes.{Counted}
+use Rattle.sheet_bytes.proofs.Written.{bytes_left}
 use Rattle.sheet_bytes.proofs.marked_bytes.Given as goal
+use Rattle.sheet_bytes.specs.Writing.{bytes_of_marked}
+use Rattle.std.proofs.Common.{◌≡◌, ◌+◌, ◌*◌, ◌≤◌, length}
+use Rattle.std.specs.Iterator.Adapters.{zip_first}
+use Rattle.std.specs.Slice.Iter.{iter_rest}
 use Rattle.turns.specs.Found.{lines_found}
 
-abbrev pub invariant-loop-i : goal.invariant-loop-i
-invariant-loop-i l = Counted l.marks (lines_found (certificates_of l.registry) l.found) l.i l.bytes
+-- what is counted, with the bytes of the lines that are left, makes all
+abbrev pub invariant-loop-line : goal.invariant-loop-line
+invariant-loop-line l =
+    let cs = certificates_of l.registry in
+    record {
+      all : l.bytes + length (bytes_left cs l.line-iterator) ≡ length (bytes_of_marked l.marks (lines_found cs l.found));
+      few : l.bytes + 14 * length (iter_rest (zip_first l.line-iterator)) ≤ 14 * length l.found;
+    }

@@ -1,29 +1,38 @@
 use Rattle.registry.specs.Numbered.{certificates_of}
-use Rattle.sheet_bytes.proofs.Written.{begun_none, begun_more, begun_room, begun_all}
+use Rattle.sheet_bytes.proofs.Written.{Begun, begun_more, begun_room, begun_all, bytes_left, left_marked, left_unmarked, left_none}
 use Rattle.sheet_bytes.proofs.write_lines.Goals as goal
-use Rattle.std.proofs.lemmas.List.{length-map}
+use Rattle.sheet_bytes.specs.Writing.{bytes_of_marked}
+use Rattle.std.proofs.Common.{subst, arith}
+use Rattle.sheets.specs.Bytes.{line_bytes}
 use Rattle.turns.specs.Found.{line_of, lines_found}
-use Rattle.std.proofs.Common.{arith}
 
-pub loop-i-init : goal.loop-i-init
-loop-i-init c = begun_none c.args.marks.now (lines_found (certificates_of c.args.registry.now) c.args.found.now) c.args.out.now
-
-pub write_at-at-requires : goal.write_at-at-requires
-write_at-at-requires c =
+pub write_line-at-requires : goal.write_line-at-requires
+write_line-at-requires c =
     let cs = certificates_of c.args.registry.now in
-    let room = begun_room c.args.marks.now (lines_found cs c.args.found.now) c.args.out.now c.loop-i.out c.loop-i.i c.loop-i.at
-    (omega (arith, length-map c.args.found.now (line_of cs))) c.loop-i.invariant in
-    record { within = c.loop-i-test.true; fits = omega (arith, room, c.requires, c.loop-i.auto.out) }
+    let more = left_marked cs c.loop-line.line-iterator c.next.new.self c.next.result c.in-Some.line c.in-Some.mark c.in-Some.is c.next.ensures.steps c.if-mark.true in
+    omega (
+      arith,
+      c.requires,
+      c.loop-line.auto.out,
+      begun_room (bytes_of_marked c.args.marks.now (lines_found cs c.args.found.now)) c.args.out.now c.loop-line.out (bytes_left cs c.loop-line.line-iterator)
+          (line_bytes (line_of cs c.in-Some.line.now)) (bytes_left cs c.next.new.self) c.loop-line.at more c.loop-line.invariant,
+    )
 
-pub loop-i-preserved : goal.loop-i-preserved
-loop-i-preserved c =
+pub loop-line-preserved-then-mark : goal.loop-line-preserved-then-mark
+loop-line-preserved-then-mark c =
     let cs = certificates_of c.args.registry.now in
-    begun_more c.args.marks.now (lines_found cs c.args.found.now) c.args.out.now c.loop-i.out c.write_at-at.new.out
-    c.loop-i.i c.loop-i.at c.write_at-at.result (omega (arith, length-map c.args.found.now (line_of cs))) c.loop-i.invariant
-    c.write_at-at.ensures.place c.write_at-at.ensures.after
+    let more = left_marked cs c.loop-line.line-iterator c.next.new.self c.next.result c.in-Some.line c.in-Some.mark c.in-Some.is c.next.ensures.steps c.if-mark.true in
+    begun_more (bytes_of_marked c.args.marks.now (lines_found cs c.args.found.now)) c.args.out.now c.loop-line.out c.write_line-at.new.out _ _ _
+    c.loop-line.at c.write_line-at.result more c.write_line-at.ensures.place c.write_line-at.ensures.after c.loop-line.invariant
+
+pub loop-line-preserved : goal.loop-line-preserved
+loop-line-preserved c =
+    let cs = certificates_of c.args.registry.now in
+    let more = left_unmarked cs c.loop-line.line-iterator c.next.new.self c.next.result c.in-Some.line c.in-Some.mark c.in-Some.is c.next.ensures.steps c.if-mark.false in
+    subst (λ left. Begun (bytes_of_marked c.args.marks.now (lines_found cs c.args.found.now)) c.args.out.now c.loop-line.out left c.loop-line.at) more c.loop-line.invariant
 
 pub returns : goal.returns
 returns c =
     let cs = certificates_of c.args.registry.now in
-    begun_all c.args.marks.now (lines_found cs c.args.found.now) c.args.out.now c.loop-i.out c.loop-i.i c.loop-i.at
-    (omega (arith, length-map c.args.found.now (line_of cs))) c.requires c.loop-i.invariant
+    begun_all (bytes_of_marked c.args.marks.now (lines_found cs c.args.found.now)) c.args.out.now c.loop-line.out _ c.loop-line.at
+    (left_none cs c.loop-line.line-iterator c.next.new.self c.next.result c.in-None.is c.next.ensures.steps) c.requires c.loop-line.invariant

@@ -1,7 +1,10 @@
 use Rattle.registry.specs.Numbered.{certificates_of}
-use Rattle.sheet_bytes.proofs.Written.{Begun}
+use Rattle.sheet_bytes.proofs.Written.{Begun, bytes_left}
 use Rattle.sheet_bytes.proofs.write_lines.Given as goal
+use Rattle.sheet_bytes.specs.Writing.{bytes_of_marked}
 use Rattle.turns.specs.Found.{lines_found}
 
-abbrev pub invariant-loop-i : goal.invariant-loop-i
-invariant-loop-i l = Begun l.marks (lines_found (certificates_of l.registry) l.found) l.initial.out l.out l.i l.at
+abbrev pub invariant-loop-line : goal.invariant-loop-line
+invariant-loop-line l =
+    let cs = certificates_of l.registry in
+    Begun (bytes_of_marked l.marks (lines_found cs l.found)) l.initial.out l.out (bytes_left cs l.line-iterator) l.at

@@ -1,33 +1,26 @@
-use Rattle.std.proofs.Common.{vec_items, refl, arith}
-use Rattle.inquiries.proofs.Stretches.{begins, goes_along, all_along, asked_left, unasked_left}
+use Rattle.inquiries.proofs.Stretches.{begins, goes_along, all_along, unasked_left}
 use Rattle.inquiries.proofs.days.spans_of.Goals as goal
+use Rattle.inquiries.specs.Spans.{SpansOf}
+use Rattle.inquiries.specs.Days.{MayOn}
+use Rattle.inquiries.specs.declared.spans.Span.{Span}
 use Rattle.registry.specs.Numbered.{certificates_of}
+use Rattle.std.proofs.Common.{ℕ, List, Option, sym, refl, subst}
 
-pub stretches-init : goal.stretches-init
-stretches-init c = rw c.new-spans.ensures.items (begins (certificates_of c.args.registry.now) c.args.question.now c.args.names.now c.args.name_lines.now)
+pub loop-next-init : goal.loop-next-init
+loop-next-init c = begins (certificates_of c.args.registry.now) c.args.question.now c.args.names.now c.args.name_lines.now c.new-spans.result c.new-spans.ensures
 
-pub returns-in-Err-clause-left : goal.returns-in-Err-clause-left
-returns-in-Err-clause-left c =
-    unasked_left (certificates_of c.args.registry.now) c.args.question.now c.args.names.now c.args.name_lines.now c.stretches.day (vec_items c.stretches.spans) c.stretches.since
-    c.stretches.names c.stretches.name_lines c.stretches.invariant c.in-Err.unfound _ _ (vec_items c.ask_on.new.spans) c.in-Err.ensures
+pub returns-in_err-ask_on-clause-left : goal.returns-in_err-ask_on-clause-left
+returns-in_err-ask_on-clause-left c =
+    unasked_left (certificates_of c.args.registry.now) c.args.question.now c.args.names.now c.args.name_lines.now c.in-Some.day c.loop-next.spans
+    c.loop-next.names c.loop-next.name_lines (rw c.in-Some.is at c.loop-next.invariant) c.in_err-ask_on.field-0.0 _ _ c.ask_on.new.spans c.in_err-ask_on.ensures
 
-pub stretches-preserved : goal.stretches-preserved
-stretches-preserved c =
-    goes_along (certificates_of c.args.registry.now) c.args.question.now c.args.names.now c.args.name_lines.now c.stretches.day (vec_items c.stretches.spans) c.stretches.since
-    c.stretches.names c.stretches.name_lines c.stretches.invariant c.in-Some.next c.in-Some.ensures _ _ (vec_items c.ask_on.new.spans) c.in-Ok.after c.in-Ok.ensures
+pub loop-next-preserved : goal.loop-next-preserved
+loop-next-preserved c =
+    goes_along (certificates_of c.args.registry.now) c.args.question.now c.args.names.now c.args.name_lines.now c.in-Some.day c.loop-next.spans
+    c.loop-next.names c.loop-next.name_lines (rw c.in-Some.is at c.loop-next.invariant) c.next_change-next.result c.next_change-next.ensures _ _ c.ask_on.new.spans c.in_ok-ask_on.field-0 c.in_ok-ask_on.ensures
 
-pub returns-in-Ok-end-clause-told : goal.returns-in-Ok-end-clause-told
-returns-in-Ok-end-clause-told c =
-    rw c.in-Ok-end.ensures
-    (all_along (certificates_of c.args.registry.now) c.args.question.now c.args.names.now c.args.name_lines.now c.stretches.day (vec_items c.stretches.spans) c.stretches.since
-    c.stretches.names c.stretches.name_lines c.stretches.invariant c.in_default.ensures _ _ (vec_items c.ask_on.new.spans) c.in-Ok.after c.in-Ok.ensures 4294967295 refl)
-
-pub returns-in-Ok-end-clause-left : goal.returns-in-Ok-end-clause-left
-returns-in-Ok-end-clause-left c =
-    asked_left (certificates_of c.args.registry.now) c.args.question.now c.args.names.now c.args.name_lines.now c.stretches.day (vec_items c.stretches.spans) c.stretches.since
-    c.stretches.names c.stretches.name_lines c.stretches.invariant _ _ (vec_items c.ask_on.new.spans) c.in-Ok.after c.in-Ok.ensures
-
-pub returns-in-Err-end-clause-left : goal.returns-in-Err-end-clause-left
-returns-in-Err-end-clause-left c =
-    asked_left (certificates_of c.args.registry.now) c.args.question.now c.args.names.now c.args.name_lines.now c.stretches.day (vec_items c.stretches.spans) c.stretches.since
-    c.stretches.names c.stretches.name_lines c.stretches.invariant _ _ (vec_items c.ask_on.new.spans) c.in-Ok.after c.in-Ok.ensures
+pub returns-clause-told : goal.returns-clause-told
+returns-clause-told c =
+    let told = all_along (certificates_of c.args.registry.now) c.args.question.now c.args.names.now c.args.name_lines.now c.loop-next.names c.loop-next.name_lines c.loop-next.spans
+    (rw c.in_default.is at c.loop-next.invariant) 4294967295 refl in
+    subst (λ (p : List Span × Option ℕ). SpansOf (MayOn (certificates_of c.args.registry.now) c.args.question.now) p.0) (sym c.in_ok-end.ensures) told

@@ -1,5 +1,5 @@
 use Rattle.std.proofs.Common.{arith}
-use Rattle.finding.specs.Growing.{bare_head, HeadTold}
+use Rattle.finding.specs.Growing.{bare_head}
 use Rattle.gates.specs.Gates.{state_of}
 use Rattle.inquiries.proofs.Kept.{sheet_kept}
 use Rattle.inquiries.proofs.sheet.sheet_for.Goals as goal

@@ -1,3 +1,4 @@
+-- Named here and not in `using(..)`: the search leaves `decided` open, whose conclusion is one of two cases.
 use Rattle.sheets.proofs.Complete.{complete, decided}
 use Rattle.sheets.proofs.SheetRead.{checks_exactly_lem}
 use Rattle.sheets.proofs.Sound.{sound}
