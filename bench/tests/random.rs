@@ -3,8 +3,10 @@
 mod common;
 
 use common::{files, run};
+use plain::bytes::Reader;
 use plain::check::{answer, Table};
 use plain::delivery::{receive, Told};
+use plain::event;
 use plain::gate::Gate;
 use plain::trial::case::Case;
 use plain::trial::checks::{check, Counts};
@@ -44,6 +46,33 @@ fn cases_meet_every_fault() {
     }
     let unmet: Vec<usize> = (0..13).filter(|&number| met[number] < 5).collect();
     assert_eq!(unmet, [5, 12], "{met:?}");
+}
+
+/// Whether an event of a delivery begins in front of a place and ends behind it.
+fn stands_across(delivery: &[u8], place: usize) -> bool {
+    let mut reader = Reader::new(delivery);
+    let mut begin = 0;
+    while event::read(&mut reader).is_some() {
+        let end = delivery.len() - reader.rest.len();
+        if place < end {
+            return begin < place;
+        }
+        begin = end;
+    }
+    false
+}
+
+/// The proved programs hold 32 KiB when they take the first events, the unproved ones 64 KiB.
+#[test]
+fn cases_have_events_across_pieces() {
+    let mut met = [0; 2];
+    for seed in 0..3000 {
+        for delivery in Case::new(seed).deliveries {
+            met[0] += usize::from(stands_across(&delivery, 2 << 14));
+            met[1] += usize::from(stands_across(&delivery, 4 << 14));
+        }
+    }
+    assert!(met.iter().all(|&count| count >= 3), "{met:?}");
 }
 
 #[test]

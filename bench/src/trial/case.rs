@@ -5,9 +5,12 @@ use crate::gate::Gate;
 use crate::random::Random;
 use crate::request::Head;
 use crate::trial::backbone::backbone;
-use crate::trial::damage::damage;
+use crate::trial::damage::{damage, more_names};
 use crate::trial::sheets;
 use crate::trial::world::{Size, World};
+
+/// How many bytes of a delivery the proved programs hold when they take its first events.
+const HELD: usize = 2 << 14;
 
 pub struct Case {
     pub size: Size,
@@ -64,9 +67,17 @@ fn take(gate: &mut Gate, events: &[u8]) {
     receive(gate, events, |_| Ok(())).expect("reading from memory does not fail");
 }
 
-/// A delivery of events; now and then some days pass, and now and then it is empty.
+/// A delivery of events; now and then some days pass, and now and then it is empty. In about one
+/// case of two hundred so many refused ones stand in front that events go across pieces.
 fn events(random: &mut Random, world: &World, gate: &Gate) -> Vec<u8> {
     let mut out = Vec::new();
+    if random.below(400) == 0 {
+        let front = random.from(HELD - 1000, 3 * HELD);
+        while out.len() < front {
+            let certificate = world.certificate(random);
+            more_names(random, &certificate, &mut out);
+        }
+    }
     let mut count = gate.registry.certificates().len();
     for _ in 0..world.events(random) {
         let before = out.len();

@@ -50,7 +50,7 @@ pub fn faulty_event(random: &mut Random, certificate: &Certificate, out: &mut Ve
 }
 
 /// A certificate with more names than a subject may have.
-fn more_names(random: &mut Random, certificate: &Certificate, out: &mut Vec<u8>) {
+pub fn more_names(random: &mut Random, certificate: &Certificate, out: &mut Vec<u8>) {
     let mut bytes = Vec::new();
     certificate.write(&mut bytes);
     let count = random.pick(&[7, 8, 128, 255]);

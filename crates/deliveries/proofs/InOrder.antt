@@ -1,14 +1,13 @@
 -- Deliveries taken one after the other: one more at the end. Assumes nothing.
 use Rattle.std.proofs.Common.{◌≡◌, ℕ, ◌+◌, ◌<◌, List, [], ◌∷◌, ◌++◌, length, get_or, take, drop, vec_items, Vec, sym, refl, ap, ◌∙◌, append_assoc, append-nil}
-use Rattle.deliveries.specs.Lists.{bytes_of, Stopped}
-use Rattle.gates.specs.Gates.{Unanswered}
+use Rattle.deliveries.specs.Lists.{bytes_of, Untaken, Stopped}
 use Rattle.gates.specs.declared.troubles.Trouble.{Trouble}
 use Rattle.promise.specs.Promise.{Bytes}
 use Rattle.promise.specs.Requests.{onto, receive, left_by_delivery, receive_all, left_by_all}
 use Rattle.promise.specs.States.{State}
 use Rattle.promise.specs.declared.answers.Answer.{Answer}
 use Rattle.std.proofs.ByRecursion.{All-push}
-use Rattle.std.proofs.lemmas.List.{map-append, take_more, take-append-drop}
+use Rattle.std.proofs.lemmas.List.{map-append, take_more, drop_more, take-append-drop}
 use Rattle.std.specs.List.{AllByRecursion}
 use Rattle.std.specs.declared.alloc.Global.{Global}
 
@@ -51,13 +50,20 @@ module _ (ds : List (Vec ℕ Global)) (i : ℕ) where
       ap bytes_of (take_more ds i d below ∙ ap (λ (e : Vec ℕ Global). take i ds ++ (e ∷ [])) (sym is))
       ∙ (map-append vec_items (take i ds) (d ∷ []) ∙ ap (λ (e : List ℕ). bytes_of (take i ds) ++ (e ∷ [])) (sym same))
 
-  -- memory is wanting at the next delivery
-  pub stopped : (t : Trouble) (g g' : State) (answers : List Answer) (memory memory' left : List ℕ) → Along g memory (bytes_of (take i ds)) g' answers memory' →
-      length memory' ≡ length memory → Unanswered t (length memory') → left ≡ memory' → Stopped t g (bytes_of ds) memory left
-  stopped t g g' answers memory memory' left so long why same = record {
-    why = rw long at why;
+  -- the next delivery is not taken
+  pub stopped : (d : Vec ℕ Global) (s : List ℕ) → i < length ds → d ≡ get_or ds i d → s ≡ vec_items d →
+      (t : Trouble) (g g' : State) (answers : List Answer) (memory memory' left : List ℕ) → Along g memory (bytes_of (take i ds)) g' answers memory' →
+      length memory' ≡ length memory → Untaken t s (length memory') → left ≡ memory' → Stopped t g (bytes_of ds) memory left
+  stopped d s below is read t g g' answers memory memory' left so long why same = record {
     before = bytes_of (take i ds);
-    behind = bytes_of (drop i ds);
-    some = ap bytes_of (sym (take-append-drop i ds)) ∙ map-append vec_items (take i ds) (drop i ds);
+    here = s;
+    behind = bytes_of (drop (i + 1) ds);
+    some =
+        ap bytes_of (sym (take-append-drop i ds))
+        ∙ (map-append vec_items (take i ds) (drop i ds)
+        ∙ ap (λ (rest : List (List ℕ)). bytes_of (take i ds) ++ rest)
+        (ap bytes_of (drop_more ds i d below ∙ ap (λ (e : Vec ℕ Global). e ∷ drop (i + 1) ds) (sym is))
+        ∙ ap (λ (e : List ℕ). e ∷ bytes_of (drop (i + 1) ds)) (sym read)));
+    why = rw long at why;
     left = same ∙ so.left;
   }

@@ -1,7 +1,10 @@
--- What is promised of a delivery that a gate took. Assumes nothing.
-use Rattle.std.proofs.Common.{◌≡◌, ℕ, ◌<◌, List, arith}
+-- What is promised of a delivery that a gate took, and why one was not taken. Assumes nothing.
+use Rattle.std.proofs.Common.{◌≡◌, ℕ, ◌<◌, true, List, length, arith}
 use Rattle.gates.specs.declared.Gate.{Gate}
-use Rattle.gates.specs.Gates.{state_of}
+use Rattle.deliveries.specs.Lists.{is_request, Untaken}
+use Rattle.gates.specs.Gates.{state_of, Unanswered}
+use Rattle.gates.specs.declared.troubles.Trouble.{Trouble}
+use Rattle.gates.specs.declared.troubles.Trouble.TheVariants.{UnknownHouse, NoMemory, ShortMemory}
 use Rattle.promise.proofs.OnCall.{promise_kept}
 use Rattle.promise.specs.Promise.{Bytes, KeptPromise}
 use Rattle.promise.specs.Requests.{receive}
@@ -13,3 +16,11 @@ pub delivery_kept : (gate : Gate) (d : List ℕ) (g : State) (answers : List Ans
 delivery_kept gate d g answers small same =
     let known : gate.owner < 1024 = omega (arith, gate.known) in
     promise_kept (state_of gate) d g answers known small same
+
+pub untaken_request : (t : Trouble) (d : List ℕ) (words : ℕ) → is_request d ≡ true → 0 < length d → Unanswered t words → Untaken t d words
+untaken_request UnknownHouse d words asked some why = why
+untaken_request NoMemory d words asked some why = some
+untaken_request ShortMemory d words asked some why = (asked, why)
+
+pub untaken_events : (t : Trouble) (d : List ℕ) (words : ℕ) → 0 < length d → t ≡ NoMemory → Untaken t d words
+untaken_events t d words some why = rw why some

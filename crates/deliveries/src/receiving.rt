@@ -1,5 +1,5 @@
 // Deliveries taken whole. A gate goes through by value, and memory for the check of a sheet is lent beside it.
-ghost use Rattle.deliveries.specs.Lists.{bytes_of, Stopped};
+ghost use Rattle.deliveries.specs.Lists.{bytes_of, Untaken, Stopped};
 ghost use Rattle.gates.specs.Gates.{state_of, Unanswered};
 ghost use Rattle.gates.specs.declared.troubles.Trouble.TheVariants.{NoMemory};
 ghost use Rattle.promise.specs.Promise.{Bytes, KeptPromise, KeptAll};
@@ -58,14 +58,14 @@ fn take_request(
 
 // Takes a delivery, which is a request if its first byte is 4, and adds its answers in their order.
 // That it is a list of bytes is what the promise asks of it.
-#[tactic(auto, using(wire::proofs::Exact::bytes_of_slice))]
+#[tactic(auto, using(wire::proofs::Exact::bytes_of_slice, crate::proofs::Kept::untaken_request, crate::proofs::Kept::untaken_events))]
 fn take_delivery(
     gate: Gate,
     bytes: &[u8],
     memory: &mut [u64],
     answers: &mut Vec<Answer>,
 ) -> Result<Gate, Trouble>
-    ensures value { MatchResult result (λ g. (state_of g, answers.new.items) ≡ onto answers.old.items (receive (state_of gate) bytes.now)) (λ t. Unanswered t (length memory.old)) }
+    ensures value { MatchResult result (λ g. (state_of g, answers.new.items) ≡ onto answers.old.items (receive (state_of gate) bytes.now)) (λ t. Untaken t bytes.now (length memory.old)) }
     ensures memory { MatchResult result (λ _. memory.new ≡ left_by_delivery (state_of gate) bytes.now memory.old) (λ _. memory.new ≡ memory.old) }
     ensures bytes { Bytes bytes.now }
 {
@@ -87,7 +87,7 @@ pub fn receive(
     bytes: &[u8],
     memory: &mut [u64],
 ) -> Result<(Gate, Vec<Answer>), Trouble>
-    ensures value { MatchResult result (λ p. (state_of p.0, p.1.items) ≡ receive (state_of gate) bytes.now) (λ t. Unanswered t (length memory.old)) }
+    ensures value { MatchResult result (λ p. (state_of p.0, p.1.items) ≡ receive (state_of gate) bytes.now) (λ t. Untaken t bytes.now (length memory.old)) }
     ensures memory { MatchResult result (λ _. memory.new ≡ left_by_delivery (state_of gate) bytes.now memory.old) (λ _. memory.new ≡ memory.old) }
     ensures promised { IfOk result (λ p. KeptPromise (state_of gate) bytes.now (state_of p.0) p.1.items) }
 {

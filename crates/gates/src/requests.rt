@@ -1,8 +1,8 @@
 // Requests: a house asks for a right, and shows a sheet.
 ghost use Rattle.std.specs.Prelude.{◌≡◌, ◌<◌, length, IfOk, Some, MatchResult};
-ghost use Rattle.gates.specs.Gates.{state_of};
+ghost use Rattle.gates.specs.Gates.{state_of, LinesLookedAt};
 ghost use Rattle.promise.specs.Promise.{KeptAnswer};
-ghost use Rattle.promise.specs.Requests.{answer, answer_head, decided, AnsweredByFront, left_by, left_by_head};
+ghost use Rattle.promise.specs.Requests.{take_head, answer, answer_head, decided, AnsweredByFront, left_by, left_by_head};
 
 use crate::Gate;
 use promise::answers::Answer;
@@ -21,7 +21,7 @@ impl Gate {
         lines: &[u8],
         memory: &mut [u64],
     ) -> Result<Result<(), Fault>, ShortMemory>
-        ensures value { MatchResult result (λ looked. decided looked ≡ answer_head (state_of self.now) (Some (head, lines.now))) (λ _. length memory.old < 16384) }
+        ensures value { MatchResult result (λ looked. decided looked ≡ answer_head (state_of self.now) (Some (head, lines.now))) (λ _. (length memory.old < 16384) × LinesLookedAt (state_of self.now) (Some (head, lines.now))) }
         ensures memory { MatchResult result (λ _. memory.new ≡ left_by_head (state_of self.now) memory.old (Some (head, lines.now))) (λ _. memory.new ≡ memory.old) }
     {
         let question = head.question(self.day, self.owner);
@@ -37,7 +37,7 @@ impl Gate {
     // The answer to a request, whose first byte is 4: whoever is let in may.
     #[tactic(auto, using(crate::proofs::Keeping::front_enough))]
     pub fn answer(&self, bytes: &[u8], memory: &mut [u64]) -> Result<Answer, ShortMemory>
-        ensures value { MatchResult result (λ a. a ≡ answer (state_of self.now) bytes.now) (λ _. length memory.old < 16384) }
+        ensures value { MatchResult result (λ a. a ≡ answer (state_of self.now) bytes.now) (λ _. (length memory.old < 16384) × LinesLookedAt (state_of self.now) (take_head bytes.now)) }
         ensures memory { MatchResult result (λ _. memory.new ≡ left_by (state_of self.now) bytes.now memory.old) (λ _. memory.new ≡ memory.old) }
         ensures front { IfOk result (λ a. AnsweredByFront (state_of self.now) bytes.now a) }
         ensures promised { IfOk result (λ a. KeptAnswer (state_of self.now) bytes.now a) }

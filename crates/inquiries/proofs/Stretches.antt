@@ -1,21 +1,21 @@
--- Stretches of days between which certificates change. Assumes nothing.
-use Rattle.std.proofs.Common.{◌≡◌, ℕ, ◌+◌, ◌^◌, ◌<◌, ◌≤◌, ◌↔◌, inl, inr, List, [], length, Some, None, Ok, Err, Option, vec_items, sym, refl, ◌∙◌, subst, arith}
-use Rattle.certificates.proofs.Meaning.{steady}
+-- Stretches of days in which a house may as on the first of them, or may not. Assumes nothing.
+use Rattle.std.proofs.Common.{◌≡◌, ℕ, ◌+◌, ◌^◌, ◌<◌, ◌≤◌, Bool, true, false, ◌↔◌, inl, inr, List, [], length, Some, None, Ok, Err, Option, vec_items, sym, refl, subst, arith}
+use Rattle.certificates.proofs.Meaning.{Carries, has_carries}
 use Rattle.certificates.specs.Certificates.{Valid, valid}
 use Rattle.certificates.specs.declared.Certificate.{Certificate}
 use Rattle.finding.specs.Asking.{Untouched}
 use Rattle.finding.specs.declared.sheets_found.Unfound.{Unfound}
 use Rattle.finding.specs.declared.sheets_found.Unfound.TheVariants.{NoSheet, TooShort, Malformed, OutOfRange, NoMemory, WrongSize}
 use Rattle.inquiries.proofs.Spanning.{step, finish}
-use Rattle.inquiries.specs.Changes.{Stays, until, NextChange}
+use Rattle.inquiries.specs.Changes.{Keeps, until, NextChange}
 use Rattle.inquiries.specs.Days.{on_day, MayOn, AskedOn, Left, as_it_was, by_finding}
 use Rattle.inquiries.specs.Spans.{Covered, Apart, SpansOf, KnownBefore, so_far, ended}
 use Rattle.inquiries.specs.declared.spans.Span.{Span}
 use Rattle.inquiries.specs.declared.spans.SpansSoFar.{SpansSoFar}
 use Rattle.registry.specs.Numbered.{certificate_at}
-use Rattle.sheets.proofs.Shown.{valid_true, valid_from, number_of}
+use Rattle.sheets.proofs.Shown.{impossible, valid_true, valid_from, number_of}
 use Rattle.sheets.specs.declared.checking.Question.{Question}
-use mathlib.Core.List.{Memᴰ}
+use Rattle.std.specs.Bool.{Decides}
 
 -- what is kept from stretch to stretch: the next one begins on a day, or days end
 pub record Along (cs : List Certificate) (q : Question) (names numbers : List ℕ) (next : Option ℕ) (spans : SpansSoFar) (names' numbers' : List ℕ) : Type 0 where
@@ -23,18 +23,36 @@ pub record Along (cs : List Certificate) (q : Question) (names numbers : List �
   pub left : Left cs q names numbers names' numbers'
 
 module _ (cs : List Certificate) (q : Question) where
-  valid_stays : (day other : ℕ) (c : Certificate) → valid other c ≡ valid day c → Valid other c → Valid day c
-  valid_stays day other c same v = valid_true day c (sym same ∙ valid_from other c v)
+  -- on another day the same certificates are valid, or more
+  still : (day until other : ℕ) → ((i : ℕ) → i < length cs → Keeps true day until (certificate_at cs i)) → day ≤ other → other < until → Carries cs day cs other
+  unfolding Carries
+  still day until other keep from below c i v =
+      let (n, few, is) = number_of i in
+      let keeps : Keeps true day until c = subst (λ (x : Certificate). Keeps true day until x) is (keep n few) in
+      (i, valid_true other c (keeps (valid_from day c v) other from below))
 
-  -- nobody's right changes in a stretch
-  same_may : (day next : ℕ) → ((i : ℕ) → i < length cs → Stays day next (certificate_at cs i)) → (other : ℕ) → day ≤ other → other < next → MayOn cs q other ↔ MayOn cs q day
-  same_may day next stay other from below = steady cs other day each q.right q.owner q.house
-    where
-      each : (c : Certificate) → Memᴰ c cs → Valid other c ↔ Valid day c
-      each c i =
-          let (n, few, is) = number_of i in
-          let same : valid other c ≡ valid day c = subst (λ (x : Certificate). valid other x ≡ valid day x) is (stay n few other from below) in
-          (valid_stays day other c same, valid_stays other day c (sym same))
+  -- a certificate that is valid later is so now
+  already : (day until other : ℕ) (c : Certificate) → Keeps false day until c → day ≤ other → other < until → Valid other c → (now : Bool) → valid day c ≡ now → Valid day c
+  already day until other c keeps from below v true is = valid_true day c is
+  already day until other c keeps from below v false is =
+      let later = valid_from other c v in
+      let not_so = keeps is other from below in
+      impossible (cc)
+
+  -- on another day no more certificates are valid
+  no_more : (day until other : ℕ) → ((i : ℕ) → i < length cs → Keeps false day until (certificate_at cs i)) → day ≤ other → other < until → Carries cs other cs day
+  unfolding Carries
+  no_more day until other keep from below c i v =
+      let (n, few, is) = number_of i in
+      let keeps : Keeps false day until c = subst (λ (x : Certificate). Keeps false day until x) is (keep n few) in
+      (i, already day until other c keeps from below v (valid day c) refl)
+
+  -- in a stretch the house may as on its first day, or may not
+  same_may : (day until : ℕ) (allowed : Bool) → Decides allowed (MayOn cs q day) → ((i : ℕ) → i < length cs → Keeps allowed day until (certificate_at cs i)) →
+      (other : ℕ) → day ≤ other → other < until → MayOn cs q other ↔ MayOn cs q day
+  same_may day until true decides keep other from below = ((λ _. decides.0 refl), (λ (d, has). (d, has_carries (still day until other keep from below) has)))
+  same_may day until false decides keep other from below =
+      ((λ (d, has). (d, has_carries (no_more day until other keep from below) has)), (λ may. let e : false ≡ true = decides.1 may in impossible (cc)))
 
   pub begins : (names numbers : List ℕ) (spans : SpansSoFar) → so_far spans ≡ ([], None) → Along cs q names numbers (Some 0) spans names numbers
   unfolding Apart Covered
@@ -45,10 +63,10 @@ module _ (cs : List Certificate) (q : Question) where
 
   module _ (names numbers : List ℕ) (day : ℕ) (spans : SpansSoFar) (names₁ numbers₁ : List ℕ) (along : Along cs q names numbers (Some day) spans names₁ numbers₁) where
     -- a day was asked on, and the next change is known
-    pub goes_along : (next : Option ℕ) → NextChange day next cs → (names₂ numbers₂ : List ℕ) (spans' : SpansSoFar) (done : Unit {0}) →
-        AskedOn cs q day names₁ numbers₁ names₂ numbers₂ spans spans' (Ok done) → Along cs q names numbers next spans' names₂ numbers₂
-    goes_along next change names₂ numbers₂ spans' done (may, decides, goes, filled) =
-        let stepped = step (MayOn cs q) day (until next) change.later (same_may day (until next) change.all_stay) may (vec_items spans.done) spans.since along.known decides in
+    pub goes_along : (next : Option ℕ) (allowed : Bool) → NextChange allowed day next cs → (names₂ numbers₂ : List ℕ) (spans' : SpansSoFar) →
+        AskedOn cs q day names₁ numbers₁ names₂ numbers₂ spans spans' (Ok allowed) → Along cs q names numbers next spans' names₂ numbers₂
+    goes_along next allowed change names₂ numbers₂ spans' (decides, goes, filled) =
+        let stepped = step (MayOn cs q) day (until next) change.later (same_may day (until next) allowed decides change.all_keep) allowed (vec_items spans.done) spans.since along.known decides in
         record {
           known = subst (λ (p : List Span × Option ℕ). KnownBefore (MayOn cs q) (until next) p.0 p.1) (sym goes) stepped;
           left = by_finding day names₁ numbers₁ filled;

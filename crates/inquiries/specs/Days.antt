@@ -34,9 +34,9 @@ pub data Left (cs : List Certificate) (q : Question) (names numbers : List ℕ) 
   by_finding : {names' numbers' : List ℕ} (day : ℕ) (names₀ numbers₀ : List ℕ) → Filled cs (on_day q day) names₀ numbers₀ names' numbers' → Left cs q names numbers names' numbers'
 
 -- what asking on a day comes to: whether the house may is known, and the spans go on; or why not
-abbrev pub AskedOn : List Certificate → Question → ℕ → List ℕ → List ℕ → List ℕ → List ℕ → SpansSoFar → SpansSoFar → Result (Unit {0}) Unfound → Type 0
-AskedOn cs q day names numbers names' numbers' spans spans' (Ok done) =
-    (may : Bool) × Decides may (MayOn cs q day) × (so_far spans' ≡ gone_on (vec_items spans.done) spans.since day may) × Filled cs (on_day q day) names numbers names' numbers'
+abbrev pub AskedOn : List Certificate → Question → ℕ → List ℕ → List ℕ → List ℕ → List ℕ → SpansSoFar → SpansSoFar → Result Bool Unfound → Type 0
+AskedOn cs q day names numbers names' numbers' spans spans' (Ok may) =
+    Decides may (MayOn cs q day) × (so_far spans' ≡ gone_on (vec_items spans.done) spans.since day may) × Filled cs (on_day q day) names numbers names' numbers'
 AskedOn cs q day names numbers names' numbers' spans spans' (Err NoMemory) = Filled cs (on_day q day) names numbers names' numbers' ⊎ Untouched cs (on_day q day) names numbers names' numbers'
 AskedOn cs q day names numbers names' numbers' spans spans' (Err OutOfRange) = (askable q ≡ false) × Untouched cs (on_day q day) names numbers names' numbers'
 AskedOn cs q day names numbers names' numbers' spans spans' (Err WrongSize) = (right_size names numbers ≡ false) × Untouched cs (on_day q day) names numbers names' numbers'

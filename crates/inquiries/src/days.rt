@@ -1,4 +1,4 @@
-// The days on which a house may. The answer changes only where a certificate does, so finding is asked once for each stretch of days between.
+// The days on which a house may. Where it may, the answer changes only when a certificate ends, and else only when one begins; so finding is asked once for each stretch of days between.
 // The lent slices go side by side: of a struct that holds `&mut`, each contract would have to say that it holds the same reference still.
 ghost use Rattle.finding.specs.Growing.{bare_head};
 ghost use Rattle.gates.specs.Gates.{state_of};
@@ -14,7 +14,7 @@ use registry::Registry;
 use sheets::checking::Question;
 use std::alloc::Global;
 
-// Asks whether the house may on a day, and lets a span begin, last or end there.
+// Asks whether the house may on a day, and lets a span begin, last or end there. Gives what finding says.
 fn ask_on(
     heap: Global,
     registry: &Registry,
@@ -23,13 +23,13 @@ fn ask_on(
     names: &mut [u64],
     name_lines: &mut [u32],
     spans: &mut SpansSoFar,
-) -> Result<(), Unfound>
+) -> Result<bool, Unfound>
     ensures { AskedOn (certificates_of registry.now) question.now day names.old name_lines.old names.new name_lines.new spans.old spans.new result }
 {
     let asked = Question { day, ..*question };
     let allowed = may(heap, registry, &asked, names, name_lines)?;
     spans.go_on(day, allowed)?;
-    Ok(())
+    Ok(allowed)
 }
 
 // The spans of all days on which the house may.
@@ -45,10 +45,10 @@ fn spans_of(
 {
     let mut spans = SpansSoFar::new(heap);
     let mut next = Some(0);
-    // each stretch lasts until the next change, on which another begins
+    // each stretch lasts until the next day on which the answer can change, and there another begins
     while let Some(day) = next {
-        ask_on(heap, registry, question, day, names, name_lines, &mut spans)?;
-        next = next_change(registry, day);
+        let allowed = ask_on(heap, registry, question, day, names, name_lines, &mut spans)?;
+        next = next_change(registry, day, allowed);
     }
     spans.end(u32::MAX)?;
     Ok(spans.done)

@@ -1,11 +1,11 @@
 -- Events of a piece, whatever follows it. Assumes nothing.
-use Rattle.std.proofs.Common.{◌≡◌, ℕ, zero, suc, ◌+◌, ◌<◌, ◌≤◌, Bool, true, false, cond, not, ◌||◌, eqb, ltb, leb, ◌⊎◌, List, [], ◌∷◌, ◌++◌, map, length, Some, None, Ok, Err, Option, sym, refl, ap, ◌∙◌, inl, inr, ⊎_elim, append-nil, arith, length-append}
+use Rattle.std.proofs.Common.{◌≡◌, ℕ, zero, suc, ◌+◌, ◌<◌, ◌≤◌, Bool, true, false, cond, not, ◌||◌, eqb, ltb, leb, ◌⊎◌, List, [], ◌∷◌, ◌++◌, map, length, Some, None, Ok, Err, Option, sym, refl, ap, ◌∙◌, inl, inr, ⊎_elim, append_assoc, append-nil, arith, length-append}
 use Rattle.promise.proofs.Told.{told_noting}
 use Rattle.promise.proofs.Readable.{rest_bytes}
 use Rattle.promise.proofs.Shorter.{shorter}
 use Rattle.promise.specs.States.{State, Taken as AfterEvent, take, first_taken, Delivered, noting, deliver_within, deliver}
 use Rattle.promise.specs.Happened.{read_on}
-use Rattle.pieces.specs.Pieces.{PieceTaken, left_length, stopped, is_ready}
+use Rattle.pieces.specs.Pieces.{PieceTaken, left_length, StandsLast, stopped, is_ready}
 use Rattle.promise.specs.Promise.{Bytes}
 use Rattle.promise.specs.Requests.{told}
 use Rattle.promise.specs.declared.answers.Answer.{Answer}
@@ -16,7 +16,8 @@ use Rattle.std.specs.Option.{option_to_list}
 use Rattle.wire.proofs.Exact.{exactly}
 use Rattle.wire.proofs.Longest as longest
 use Rattle.wire.specs.Enough.{stops, followed_by}
-use Rattle.wire.specs.Exact.{Exactly}
+use Rattle.wire.specs.Exact.{Exactly, fields_bytes}
+use Rattle.wire.specs.Format.{bytes_of_event}
 use Rattle.wire.specs.Reading.{Reading, event_read}
 use Rattle.wire.specs.declared.events.Event.{Event}
 use Rattle.wire.specs.declared.events.Event.TheVariants.{Issued, Revoked, DayPassed}
@@ -26,6 +27,16 @@ use Rattle.wire.specs.declared.faults.Fault.TheVariants.{Malformed, OutOfRange, 
 first_on : (g : State) (r : Reading) → (first_taken g r).1 ≡ read_on r
 first_on g (Ok p) = refl
 first_on g (Err e) = refl
+
+-- what an event leaves are the last bytes
+left_last : (s : List ℕ) (r : Reading) → Exactly s r → StandsLast s (Some (read_on r))
+left_last s (Ok p) exact = (bytes_of_event p.0, ((exact.reads p.0 p.1).0 refl).1)
+left_last s (Err e) exact = elim (exact.stops e.0 e.1 refl) [
+  | inl out ↦
+      let (f, fits, faulty, is) = (exact.refuses e.1).0 (ap (λ (fault : Fault). Err (fault, e.1)) out) in
+      (1 ∷ fields_bytes f, is)
+  | inr stop ↦ (s, sym (ap (λ (rest : List ℕ). s ++ rest) stop.1 ∙ append-nil s))
+]
 
 -- what the first event leaves is bytes, and fewer
 module _ (g : State) (b : ℕ) (s : List ℕ) (small : Bytes (b ∷ s)) where
@@ -90,16 +101,18 @@ read_first s more small small-more (inr none) = rw (none, append-nil s) (nothing
 pub record Taken (g : State) (answers : List Answer) (piece : List ℕ) (last : Bool) (g' : State) (answers' : List Answer) (rest : Option (List ℕ)) : Type 0 where
   pub bytes : Bytes piece
   pub whole : PieceTaken g answers piece last g' answers' rest
+  pub behind : StandsLast piece rest
   pub fewer : length answers' + left_length rest ≤ length answers + length piece
 
 -- some events of a piece were taken: whatever follows, the rest gives the same as the whole
 pub record SoFar (before : State) (noted : List Answer) (piece : List ℕ) (last : Bool) (g : State) (answers : List Answer) (rest : List ℕ) : Type 0 where
   pub small : Bytes rest
+  pub behind : StandsLast piece (Some rest)
   pub fewer : length answers + length rest ≤ length noted + length piece
   pub same : (more : List ℕ) → Bytes more → (last ≡ true → more ≡ []) → told noted (deliver before (piece ++ more)) ≡ told answers (deliver g (rest ++ more))
 
 pub none_taken : (g : State) (answers : List Answer) (piece : List ℕ) (last : Bool) → Bytes piece → SoFar g answers piece last g answers piece
-none_taken g answers piece last small = record { small = small; fewer = omega arith; same = λ more small-more follows. refl }
+none_taken g answers piece last small = record { small = small; behind = ([], refl); fewer = omega arith; same = λ more small-more follows. refl }
 
 module _ (before g next : State) (noted : List Answer) (piece : List ℕ) (last : Bool) (answers : List Answer) (rest : List ℕ) (fault : Option Fault) (behind : List ℕ)
     (so : SoFar before noted piece last g answers rest) (go : is_ready rest last ≡ true)
@@ -130,6 +143,13 @@ module _ (before g next : State) (noted : List Answer) (piece : List ℕ) (last 
       ap_rest [] none small is = let never : ⊥ = omega arith in absurd never
       ap_rest (b ∷ r) there small is = rw (ap (λ (t : AfterEvent × List ℕ). t.1) is) (first_bytes g b r small)
 
+  rest_last : StandsLast piece (Some behind)
+  rest_last =
+      let (front, is) = so.behind in
+      let (first, left) = left_last rest (event_read rest) (exactly rest so.small) in
+      let same : behind ≡ read_on (event_read rest) = ap (λ (t : AfterEvent × List ℕ). t.1) taken ∙ first_on g (event_read rest) in
+      (front ++ first, is ∙ (ap (λ (s : List ℕ). front ++ s) (left ∙ ap (λ (s : List ℕ). first ++ s) (sym same)) ∙ sym (append_assoc front first behind)))
+
   -- an event has at most one answer
   answered_once : (more-answers : List Answer) → more-answers ≡ answers ++ map Refused (option_to_list fault) → length more-answers ≤ length answers + 1
   answered_once more-answers added = by_fault fault added
@@ -142,6 +162,7 @@ module _ (before g next : State) (noted : List Answer) (piece : List ℕ) (last 
   pub one_taken : (more-answers : List Answer) → stopped fault ≡ false → more-answers ≡ answers ++ map Refused (option_to_list fault) → SoFar before noted piece last next more-answers behind
   one_taken more-answers on added = record {
     small = rest_small;
+    behind = rest_last;
     fewer = omega (arith, answered_once more-answers added, so.fewer, less some);
     same = λ more small-more follows.
         one_step more small-more follows
@@ -155,6 +176,7 @@ module _ (before g next : State) (noted : List Answer) (piece : List ℕ) (last 
   unfolding deliver_within
   reading_ends more-answers small off added = record {
     bytes = small;
+    behind = tt;
     fewer = omega (arith, answered_once more-answers added, so.fewer, some);
     whole = λ more small-more follows.
         one_step more small-more follows
@@ -164,7 +186,7 @@ module _ (before g next : State) (noted : List Answer) (piece : List ℕ) (last 
 
 pub piece_ends : (before g : State) (noted : List Answer) (piece : List ℕ) (last : Bool) (answers : List Answer) (rest : List ℕ) → Bytes piece →
     SoFar before noted piece last g answers rest → Taken before noted piece last g answers (Some rest)
-piece_ends before g noted piece last answers rest small so = record { bytes = small; whole = so.same; fewer = so.fewer }
+piece_ends before g noted piece last answers rest small so = record { bytes = small; whole = so.same; behind = so.behind; fewer = so.fewer }
 
 -- only a malformed event stops the reading
 pub others_go_on : (fault : Fault) → (fault ≡ Malformed → ⊥) → stops fault ≡ false

@@ -40,6 +40,11 @@ abbrev pub left_length : Option (List ℕ) → ℕ
 left_length None = 0
 left_length (Some rest) = length rest
 
+-- what is left of a piece are its last bytes
+abbrev pub StandsLast : List ℕ → Option (List ℕ) → Type 0
+StandsLast piece None = Unit {0}
+StandsLast piece (Some rest) = (front : List ℕ) × (piece ≡ front ++ rest)
+
 -- a delivery that is no request
 abbrev pub holds_events : List ℕ → Bool
 holds_events [] = true

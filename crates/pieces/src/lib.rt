@@ -3,7 +3,7 @@
 
 ghost use Rattle.std.specs.Prelude.{◌≡◌, ◌+◌, ◌<◌, ◌≤◌, true, ◌++◌, map, length, vec_len, vec_capacity};
 ghost use Rattle.gates.specs.Gates.{state_of};
-ghost use Rattle.pieces.specs.Pieces.{PieceTaken, Ready, is_ready, LeftOver, left_length, stopped, KeptPiece};
+ghost use Rattle.pieces.specs.Pieces.{PieceTaken, Ready, is_ready, LeftOver, left_length, StandsLast, stopped, KeptPiece};
 ghost use Rattle.promise.specs.declared.answers.Answer.TheVariants.{Refused};
 ghost use Rattle.std.specs.Option.{option_map, option_to_list};
 
@@ -48,6 +48,7 @@ pub fn take_piece<'a>(
 ) -> (Gate, Option<&'a [u8]>)
     ensures taken { PieceTaken (state_of gate) answers.old.items piece.now last (state_of result.0) answers.new.items (option_map (λ x. x.now) result.1) }
     ensures until { LeftOver (vec_capacity answers.old) (vec_len answers.new) last (option_map (λ x. x.now) result.1) }
+    ensures behind { StandsLast piece.now (option_map (λ x. x.now) result.1) }
     ensures fewer { vec_len answers.new + left_length (option_map (λ x. x.now) result.1) ≤ vec_len answers.old + length piece.now }
     ensures room { vec_capacity answers.new ≡ vec_capacity answers.old }
     ensures promised { KeptPiece (state_of gate) piece.now last (state_of result.0) (option_map (λ x. x.now) result.1) }

@@ -1,5 +1,7 @@
 // Files of the programs, read in pieces.
-ghost use Rattle.programs.specs.Files.{ReadOn};
+ghost use Rattle.pieces.specs.Pieces.{holds_events};
+ghost use Rattle.programs.specs.Files.{ReadOn, ReadPast, last_bytes};
+ghost use Rattle.std.specs.Prelude.{◌≡◌, ◌+◌, ◌-◌, ◌^◌, [], not, IfOk, min, length};
 
 use anyhow::anyhow;
 use promise::heads::REQUEST;
@@ -47,7 +49,11 @@ pub(crate) struct Delivery<'a> {
 
 impl<'a> Delivery<'a> {
     // Opens the file; no byte is read yet.
-    pub(crate) fn open(rt: &HostRuntime, name: &'a str) -> anyhow::Result<Delivery<'a>> {
+    pub(crate) fn open(rt: &HostRuntime, name: &'a str) -> anyhow::Result<Delivery<'a>>
+        ensures named { IfOk result (λ d. d.name.now ≡ name.entry.now) }
+        ensures bytes { IfOk result (λ d. d.bytes.items ≡ []) }
+        ensures before { IfOk result (λ d. d.before ≡ 0) }
+    {
         let file = open_file(rt, name)?;
         let bytes = Vec::new(rt.alloc());
         Ok(Delivery {
@@ -58,20 +64,27 @@ impl<'a> Delivery<'a> {
         })
     }
 
-    // Reads on by a piece; false at the end of the file.
+    // Reads on by a piece; false at the end of the file. The place of what is held stays.
     pub(crate) fn read_on(&mut self) -> anyhow::Result<bool>
-        ensures { ReadOn self.old.bytes.items self.new.bytes.items result }
+        ensures bytes { ReadOn self.old.bytes.items self.new.bytes.items result }
+        ensures before { self.new.before ≡ self.old.before }
     {
         read_on(&mut self.file, self.name, &mut self.bytes)
     }
 
     // Whether it is a request: its first byte says so.
-    pub(crate) fn is_request(&self) -> bool {
+    pub(crate) fn is_request(&self) -> bool
+        ensures { result ≡ not (holds_events self.now.bytes.items) }
+    {
         matches!(self.bytes.as_slice(), [REQUEST, ..])
     }
 
     // Reads on to the end of the file, or until there are more bytes than `longest`: enough to see that it is longer.
-    pub(crate) fn read_past(&mut self, longest: usize) -> anyhow::Result<()> {
+    // Where a file ends, only a run shows.
+    pub(crate) fn read_past(&mut self, longest: usize) -> anyhow::Result<()>
+        ensures bytes { ReadPast self.old.bytes.items self.new.bytes.items longest }
+        ensures before { self.new.before ≡ self.old.before }
+    {
         // Counted: each turn but the last brings a byte at least.
         for _ in 0..=longest {
             if self.bytes.len() > longest || !self.read_on()? {
@@ -81,8 +94,11 @@ impl<'a> Delivery<'a> {
         Ok(())
     }
 
-    // Holds only the last bytes, so many.
-    pub(crate) fn keep(&mut self, left: usize) {
+    // Holds only the last bytes, so many; what is dropped stands in front of them.
+    pub(crate) fn keep(&mut self, left: usize)
+        ensures bytes { self.new.bytes.items ≡ last_bytes left self.old.bytes.items }
+        ensures before { self.new.before ≡ min (self.old.before + (length self.old.bytes.items - left)) (2 ^ 64 - 1) }
+    {
         let count = self.bytes.len().saturating_sub(left);
         self.bytes.drain(..count);
         self.before = self.before.saturating_add(count as u64);

@@ -1,4 +1,8 @@
 // Files taken as deliveries by a gate.
+ghost use Rattle.gates.specs.Gates.{state_of};
+ghost use Rattle.programs.specs.Taking.{HeldTaken, FewLeft};
+ghost use Rattle.std.specs.Prelude.{◌≡◌, ◌<◌, IfOk, OnOk, length, vec_capacity};
+
 use crate::files::{Delivery, open_file};
 use crate::telling::{ByPlace, Part, Telling};
 use gates::Gate;
@@ -26,11 +30,16 @@ fn take_held<T: Telling>(
     delivery: &Delivery<'_>,
     last: bool,
     answers: &mut Vec<Answer>,
-) -> anyhow::Result<(Gate, Option<usize>)> {
+) -> anyhow::Result<(Gate, Option<usize>)>
+    requires { 0 < vec_capacity answers.old }
+    ensures taken { IfOk result (λ p. HeldTaken (state_of gate) delivery.now.bytes.items last (state_of p.0) p.1) }
+    ensures few { IfOk result (λ p. FewLeft (length delivery.now.bytes.items) last p.1) }
+    ensures room { OnOk result (vec_capacity answers.new ≡ vec_capacity answers.old) }
+{
     let mut before = delivery.before;
     let mut bytes = delivery.bytes.as_slice();
-    // Counted: each turn but the last takes an event, which has a byte at least.
-    for _ in 0..=bytes.len() {
+    // Each turn but the last takes an event, which has a byte at least.
+    loop {
         answers.clear();
         let (next, rest) = take_piece(gate, bytes, last, answers);
         gate = next;
@@ -45,13 +54,12 @@ fn take_held<T: Telling>(
         let Some(rest) = rest else {
             return Ok((gate, None));
         };
+        if answers.is_empty() {
+            return Ok((gate, Some(rest.len())));
+        }
         before = before.saturating_add(bytes.len().saturating_sub(left) as u64);
         bytes = rest;
-        if answers.is_empty() {
-            break;
-        }
     }
-    Ok((gate, Some(bytes.len())))
 }
 
 // Takes the events of a file piece by piece; no more is held than a piece and what an event needs.

@@ -1,4 +1,6 @@
 // How programs tell the answers to refused events.
+ghost use Rattle.std.specs.Prelude.{◌<◌};
+
 use crate::files::PIECE;
 use crate::places::begin_of;
 use pieces::LONGEST_EVENT;
@@ -27,9 +29,10 @@ impl Part<'_> {
 // A way to tell them.
 pub(crate) trait Telling {
     // How many answers are held at once.
-    fn answers_held(&self) -> usize;
+    fn answers_held(&self) -> usize
+        ensures { 0 < result };
 
-    // Tells the answers to the events of a part.
+    // Tells the answers to the events of a part. It prints only, and no contract speaks of printed text.
     fn tell(&self, rt: &HostRuntime, part: &Part<'_>, answers: &[Answer]) -> anyhow::Result<()>;
 }
 

@@ -1,5 +1,5 @@
 -- The index: entries in order, and the row that they have for a house's name. Assumes nothing.
-use Rattle.std.specs.Prelude.{◌≡◌, ℕ, ◌<◌, ◌≤◌, Bool, cond, ◌&&◌, List, [], ◌∷◌, length, ◌==◌, slice_index_or}
+use Rattle.std.specs.Prelude.{◌≡◌, ℕ, ◌+◌, ◌<◌, ◌≤◌, Bool, cond, ◌&&◌, List, [], ◌∷◌, length, ◌==◌, nat_lt, slice_index, slice_index_or}
 use Rattle.certificates.specs.declared.Certificate.{Certificate}
 use Rattle.registry.specs.Rows.{row_of}
 use Rattle.registry.specs.declared.Entry.{Entry}
@@ -24,6 +24,22 @@ Rising es = (i j : ℕ) (d : Entry) → i < j → j < length es → compared (sl
 pub record Place (es : List Entry) (house name place : ℕ) : Type 0 where
   pub within : place ≤ length es
   pub parted : IsPartitionPoint (λ e. compared house name e ≡ Less) (λ e. compared house name e ≡ Greater) es place
+
+-- the entries in front of this place are of houses below this one, the others are not
+abbrev pub HouseStart : List Entry → ℕ → ℕ → Type 0
+HouseStart es house place = (place ≤ length es) × IsPartitionPoint (λ e. e.house < house) (λ e. house ≤ e.house) es place
+
+-- for each house the place where its entries start
+abbrev pub Starts : List ℕ → List Entry → Type 0
+Starts starts es = (house : ℕ) → house < 1024 → HouseStart es house (slice_index starts house)
+
+-- the place where a house's entries start, when another house gets one more
+abbrev pub start_behind : ℕ → ℕ → ℕ → ℕ
+start_behind other house start = cond (nat_lt other house) (start + 1) start
+
+-- every entry is of a house that there is
+abbrev pub OfHouses : List Entry → Type 0
+OfHouses es = AllWithin (λ e. e.house < 1024) es 0 (length es)
 
 -- the row that the entries have for a house's name; `none` where they don't have it
 unfoldable pub row_in : List Entry → ℕ → ℕ → ℕ → ℕ

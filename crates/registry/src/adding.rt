@@ -11,7 +11,7 @@ use certificates::{Certificate, Statement};
 impl Registry {
     // The name that a certificate states and the place of its entry, if none stated it before.
     pub(crate) fn new_name(&self, certificate: &Certificate) -> Option<(usize, u16)>
-        ensures { MatchOption result (NoNewName (certificates_of self.now) certificate.now) (λ x. Place self.now.index.items certificate.now.issuer x.1 x.0 × NewName (certificates_of self.now) certificate.now x.1) }
+        ensures { MatchOption result (NoNewName (certificates_of self.now) certificate.now) (λ x. Place self.now.index.entries.items certificate.now.issuer x.1 x.0 × NewName (certificates_of self.now) certificate.now x.1) }
     {
         let Statement::Name(name) = certificate.statement else {
             return None;
@@ -34,7 +34,7 @@ impl Registry {
     pub(crate) fn add_with_name(&mut self, certificate: Certificate, place: usize, name: u16)
         requires sound { in_range certificate ≡ true }
         requires few { length (certificates_of self.old) < 1024 }
-        requires place { Place self.old.index.items certificate.issuer name place }
+        requires place { Place self.old.index.entries.items certificate.issuer name place }
         requires new { NewName (certificates_of self.old) certificate name }
         ensures { certificates_of self.new ≡ certificates_of self.old ++ certificate ∷ [] }
     {
@@ -43,8 +43,7 @@ impl Registry {
             name,
             row: self.certificates.len() as u16,
         };
-        // room for as many names as certificates is reserved
-        self.index.insert(place, entry).unwrap();
+        self.index.enter(place, entry);
         self.certificates.push_reserved(certificate);
     }
 }

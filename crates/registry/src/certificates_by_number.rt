@@ -1,10 +1,10 @@
 // Certificates come, are asked for by number, and are taken back.
-ghost use Rattle.std.specs.Prelude.{◌≡◌, ◌<◌, ◌≤◌, true, [], ◌∷◌, ◌++◌, length, is_ok, IfOk, if◌then◌else◌, MatchOption};
+ghost use Rattle.std.specs.Prelude.{◌≡◌, ◌<◌, ◌≤◌, true, [], ◌∷◌, ◌++◌, length, is_ok, IfOk, if◌then◌else◌, MatchOption, vec_len, vec_capacity};
 ghost use Rattle.certificates.specs.Certificates.{in_range};
 ghost use Rattle.registry.specs.Keeping.{all_in_range};
 ghost use Rattle.registry.specs.Numbered.{certificates_of, certificate_at, issued, revoked, revoke_at};
 
-use crate::{MOST_CERTIFICATES, Registry};
+use crate::{Index, MOST_CERTIFICATES, Registry};
 use certificates::Certificate;
 use std::alloc::{AllocError, Global};
 use wire::faults::Fault;
@@ -15,7 +15,7 @@ impl Registry {
         ensures { IfOk result (λ g. certificates_of g ≡ []) }
     {
         let certificates = Vec::with_capacity(heap, MOST_CERTIFICATES)?;
-        let index = Vec::with_capacity(heap, MOST_CERTIFICATES)?;
+        let index = Index::new(heap)?;
         Ok(Registry {
             certificates,
             index,
@@ -66,15 +66,25 @@ impl Registry {
     }
 
     // The certificate of a number is taken back: it is valid on no day from then on.
-    #[tactic(auto, using(crate::proofs::Kept::revoke_past, crate::proofs::Kept::revoke_in_place))]
     pub fn revoke(&mut self, number: u16) -> Result<(), Fault>
         ensures value { result ≡ revoked (certificates_of self.old) number }
         ensures after { certificates_of self.new ≡ revoke_at number (certificates_of self.old) }
     {
-        let Some(certificate) = self.certificates.get_mut(usize::from(number)) else {
-            return Err(Fault::UnknownCertificate);
-        };
-        *certificate = certificate.revoked();
-        Ok(())
+        revoke_in(&mut self.certificates, number)
     }
+}
+
+// The certificate at a place of the list is taken back; the list keeps its length and its room.
+#[tactic(auto, using(crate::proofs::Kept::revoke_past, crate::proofs::Kept::revoke_in_place))]
+fn revoke_in(certificates: &mut Vec<Certificate>, number: u16) -> Result<(), Fault>
+    ensures value { result ≡ revoked certificates.old.items number }
+    ensures after { certificates.new.items ≡ revoke_at number certificates.old.items }
+    ensures len { vec_len certificates.new ≡ vec_len certificates.old }
+    ensures room { vec_capacity certificates.new ≡ vec_capacity certificates.old }
+{
+    let Some(certificate) = certificates.get_mut(usize::from(number)) else {
+        return Err(Fault::UnknownCertificate);
+    };
+    *certificate = certificate.revoked();
+    Ok(())
 }

@@ -2,13 +2,14 @@
 #![tactic(auto)]
 
 ghost use Rattle.std.specs.Prelude.{◌≡◌, ◌≤◌, true, vec_len, vec_capacity};
-ghost use Rattle.registry.specs.Index.{Indexes};
+ghost use Rattle.registry.specs.Index.{OfHouses, Starts, Indexes};
 ghost use Rattle.registry.specs.Keeping.{all_in_range};
 
 use certificates::Certificate;
 
 mod adding;
 pub mod certificates_by_number;
+mod entries;
 pub mod rows;
 
 // The most certificates that ever come; room for them is reserved at the start.
@@ -22,18 +23,30 @@ pub(crate) struct Entry {
     row: u16,
 }
 
+// The entries, and where those of each house start, so that a name is looked for among those of its house alone.
+#[derive(Drop)]
+pub(crate) struct Index {
+    // Rising by house and name, no two alike. A sorted list and no map: a certificate that comes is entered without
+    // allocating, in room that was reserved at the start.
+    entries: Vec<Entry>,
+    // by house: how many entries are of lower houses
+    starts: Vec<u16>,
+    ghost few: { vec_len entries ≤ 1024 },
+    ghost space: { 1024 ≤ vec_capacity entries },
+    ghost houses: { OfHouses entries.items },
+    ghost whole: { vec_len starts ≡ 1024 },
+    ghost started: { Starts starts.items entries.items },
+}
+
 #[derive(Drop)]
 pub struct Registry {
     // by number; those taken back keep their number and are valid on no day
     certificates: Vec<Certificate>,
-    // Rising by house and name, no two alike. A sorted list and no map: a certificate that comes is entered without
-    // allocating, in room that was reserved at the start.
-    index: Vec<Entry>,
+    index: Index,
     ghost sound: { all_in_range certificates.items ≡ true },
     ghost few: { vec_len certificates ≤ 1024 },
     ghost room: { 1024 ≤ vec_capacity certificates },
-    ghost indexed: { Indexes index.items certificates.items },
+    ghost indexed: { Indexes index.entries.items certificates.items },
     // no more names than certificates, so there is room for each
-    ghost fewer: { vec_len index ≤ vec_len certificates },
-    ghost space: { 1024 ≤ vec_capacity index },
+    ghost fewer: { vec_len index.entries ≤ vec_len certificates },
 }

@@ -34,6 +34,7 @@ returns-then-note_within c =
     c.take_first-next.ensures.shorter after (bytes_of_slice piece c.type_inv.piece) (sym c.if-note_within.ensures.value) c.note_within.ensures.items in
     record {
       taken = taken.whole;
+      behind = taken.behind;
       until = tt;
       fewer = omega (arith, taken.fewer, c.note_within.new.answers.ok.0, c.args.answers.now.ok.0);
       room = c.note_within.ensures.room ∙ c.loop-gate.invariant.1;
@@ -51,6 +52,7 @@ returns c =
     (bytes_of_slice piece c.type_inv.piece) c.loop-gate.invariant.0 in
     record {
       taken = taken.whole;
+      behind = taken.behind;
       until = elim c.loop-gate-test.branch [
         | then-loop-gate-test+else-ready w ↦ inr (sym w.ready.ensures.value ∙ w.if-ready.false)
         | else-loop-gate-test w ↦ inl (omega (arith, w.loop-gate-test.false, c.len.ensures, c.capacity.ensures, c.loop-gate.invariant.1))

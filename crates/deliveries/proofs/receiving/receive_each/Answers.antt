@@ -13,9 +13,12 @@ loop-delivery-init c = none_along (state_of c.args.gate) c.args.memory.now (vec_
 pub returns-in_err-gate : goal.returns-in_err-gate
 returns-in_err-gate c =
     let p = err_from_is_err_and c.from_residual.result c.from_residual.ensures.1 in
+    let ds = c.args.deliveries.now in
+    let i = c.loop-delivery.delivery-index in
     rw (p.1, p.2)
     (record {
-      value = stopped c.args.deliveries.now c.loop-delivery.delivery-index c.in_err-gate.field-0.0 (state_of c.args.gate) (state_of c.loop-delivery.gate)
+      value = stopped ds i c.delivery-item.result c.as_slice.result.now c.loop-delivery-test.true c.delivery-item.is c.as_slice.ensures.value
+          c.in_err-gate.field-0.0 (state_of c.args.gate) (state_of c.loop-delivery.gate)
           (vec_items c.loop-delivery.answers) c.args.memory.now c.loop-delivery.memory c.take_delivery.new.memory c.loop-delivery.invariant c.loop-delivery.auto.memory
           c.in_err-gate.ensures.value c.in_err-gate.ensures.memory;
       memory = tt;

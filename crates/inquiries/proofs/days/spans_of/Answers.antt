@@ -9,15 +9,15 @@ use Rattle.std.proofs.Common.{ℕ, List, Option, sym, refl, subst}
 pub loop-next-init : goal.loop-next-init
 loop-next-init c = begins (certificates_of c.args.registry.now) c.args.question.now c.args.names.now c.args.name_lines.now c.new-spans.result c.new-spans.ensures
 
-pub returns-in_err-ask_on-clause-left : goal.returns-in_err-ask_on-clause-left
-returns-in_err-ask_on-clause-left c =
+pub returns-in_err-allowed-clause-left : goal.returns-in_err-allowed-clause-left
+returns-in_err-allowed-clause-left c =
     unasked_left (certificates_of c.args.registry.now) c.args.question.now c.args.names.now c.args.name_lines.now c.in-Some.day c.loop-next.spans
-    c.loop-next.names c.loop-next.name_lines (rw c.in-Some.is at c.loop-next.invariant) c.in_err-ask_on.field-0.0 _ _ c.ask_on.new.spans c.in_err-ask_on.ensures
+    c.loop-next.names c.loop-next.name_lines (rw c.in-Some.is at c.loop-next.invariant) c.in_err-allowed.field-0.0 _ _ c.ask_on.new.spans c.in_err-allowed.ensures
 
 pub loop-next-preserved : goal.loop-next-preserved
 loop-next-preserved c =
     goes_along (certificates_of c.args.registry.now) c.args.question.now c.args.names.now c.args.name_lines.now c.in-Some.day c.loop-next.spans
-    c.loop-next.names c.loop-next.name_lines (rw c.in-Some.is at c.loop-next.invariant) c.next_change-next.result c.next_change-next.ensures _ _ c.ask_on.new.spans c.in_ok-ask_on.field-0 c.in_ok-ask_on.ensures
+    c.loop-next.names c.loop-next.name_lines (rw c.in-Some.is at c.loop-next.invariant) c.next_change-next.result c.in_ok-allowed.allowed c.next_change-next.ensures _ _ c.ask_on.new.spans c.in_ok-allowed.ensures
 
 pub returns-clause-told : goal.returns-clause-told
 returns-clause-told c =

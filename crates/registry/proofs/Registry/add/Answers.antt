@@ -11,4 +11,4 @@ invariant_of-self-clause-sound c =
 pub invariant_of-self-clause-indexed : goal.invariant_of-self-clause-indexed
 invariant_of-self-clause-indexed c =
     let g = c.args.self.now in
-    rw c.push_reserved.ensures.items (indexes_push g.index.items (certificates_of g) g.indexed c.args.certificate c.requires.known)
+    rw c.push_reserved.ensures.items (indexes_push g.index.entries.items (certificates_of g) g.indexed c.args.certificate c.requires.known)

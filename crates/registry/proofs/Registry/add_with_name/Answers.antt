@@ -12,7 +12,5 @@ invariant_of-self-clause-sound c =
 pub invariant_of-self-clause-indexed : goal.invariant_of-self-clause-indexed
 invariant_of-self-clause-indexed c =
     let g = c.args.self.now in
-    let entered = c.insert.ensures.items in
-    let ok = c.insert.ensures.succeeds (omega arith) in
-    rw (rw ok at entered, c.push_reserved.ensures.items)
-    (indexes_entered g.index.items (certificates_of g) g.indexed c.args.certificate c.args.place _ c.requires.place refl (omega arith) c.requires.new)
+    rw (c.enter.ensures, c.push_reserved.ensures.items)
+    (indexes_entered g.index.entries.items (certificates_of g) g.indexed c.args.certificate c.args.place _ c.requires.place refl (omega arith) c.requires.new)

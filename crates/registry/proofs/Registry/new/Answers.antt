@@ -7,4 +7,4 @@ unfolding all_in_range
 invariant_of-result-clause-sound c = rw c.in_ok-certificates.ensures.items
 
 pub invariant_of-result-clause-indexed : goal.invariant_of-result-clause-indexed
-invariant_of-result-clause-indexed c = rw (c.in_ok-certificates.ensures.items, c.in_ok-index.ensures.items) none_indexed
+invariant_of-result-clause-indexed c = rw (c.in_ok-certificates.ensures.items, c.in_ok-index.ensures) none_indexed

@@ -1,20 +1,13 @@
 use Rattle.registry.proofs.Indexed.{indexes_revoked}
-use Rattle.registry.proofs.Kept.{in_range_revoked, revoke_in_place}
+use Rattle.registry.proofs.Kept.{in_range_revoked}
 use Rattle.registry.proofs.Registry.revoke.Goals as goal
 use Rattle.registry.specs.Numbered.{certificates_of}
-use Rattle.std.proofs.Common.{◌<◌, length, ◌∙◌, refl, arith}
+use Rattle.std.proofs.Common.{◌∙◌}
 
-pub invariant_of-self-2-clause-sound : goal.invariant_of-self-2-clause-sound
-invariant_of-self-2-clause-sound c =
-    let g = c.args.self.now in
-    let cs = certificates_of g in
-    let within : c.from.result < length cs = omega (arith, c.in-Some.ensures.variant.0 refl, g.certificates.ok.0) in
-    rw (revoke_in_place cs c.from.result c.in-Some.certificate.now c.revoked.result within c.in-Some.ensures.value c.revoked.ensures.value) (in_range_revoked c.from.result cs ∙ g.sound)
+pub invariant_of-self-clause-sound : goal.invariant_of-self-clause-sound
+invariant_of-self-clause-sound c = rw c.revoke_in.ensures.after (in_range_revoked _ (certificates_of c.args.self.now) ∙ c.args.self.now.sound)
 
-pub invariant_of-self-2-clause-indexed : goal.invariant_of-self-2-clause-indexed
-invariant_of-self-2-clause-indexed c =
+pub invariant_of-self-clause-indexed : goal.invariant_of-self-clause-indexed
+invariant_of-self-clause-indexed c =
     let g = c.args.self.now in
-    let cs = certificates_of g in
-    let within : c.from.result < length cs = omega (arith, c.in-Some.ensures.variant.0 refl, g.certificates.ok.0) in
-    rw (revoke_in_place cs c.from.result c.in-Some.certificate.now c.revoked.result within c.in-Some.ensures.value c.revoked.ensures.value)
-    (indexes_revoked g.index.items cs g.indexed c.from.result)
+    rw c.revoke_in.ensures.after (indexes_revoked g.index.entries.items (certificates_of g) g.indexed _)

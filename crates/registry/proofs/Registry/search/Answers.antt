@@ -1,12 +1,29 @@
-use Rattle.registry.proofs.Indexed.{searched}
 use Rattle.registry.proofs.Registry.search.Goals as goal
+use Rattle.registry.proofs.Starts.{starts_in_order, found_in_part, missing_in_part}
 use Rattle.registry.specs.Numbered.{certificates_of}
 use Rattle.std.proofs.Common.{rules}
 use Rattle.std.proofs.lemmas.List.Sorted.{answers_always}
 
-pub returns : goal.returns
-returns c =
+pub slice_bounds-names-count : goal.slice_bounds-names-count
+slice_bounds-names-count c = starts_in_order c.args.self.now.index.entries.items c.args.house c.start_of-start.result c.start_of-end.result (search rules) (search rules)
+
+pub slice_bounds-names-start : goal.slice_bounds-names-start
+slice_bounds-names-start c =
+    let order = starts_in_order c.args.self.now.index.entries.items c.args.house c.start_of-start.result c.start_of-end.result (search rules) (search rules) in
+    search (rules, order)
+
+pub returns-in-Ok : goal.returns-in-Ok
+returns-in-Ok c =
     let g = c.args.self.now in
     let facts = c.binary_search_by_key.ensures in
-    let by_key = facts.position (λ e. (e.house, e.name)) (answers_always _ _ _ (λ f a r g called. search rules)) in
-    searched g.index.items (certificates_of g) g.indexed c.args.house c.args.name c.binary_search_by_key.result (rw c.deref.ensures.value at facts.bound) (rw c.deref.ensures.value at by_key)
+    let by_name = facts.position (λ e. e.name) (answers_always _ _ _ (λ f a r g called. search rules)) in
+    found_in_part g.index.entries.items (certificates_of g) g.indexed c.args.house c.args.name c.start_of-start.result c.start_of-end.result (search rules) (search rules)
+    c.in-Ok.place (search rules) (search (rules, by_name))
+
+pub returns-in-Err : goal.returns-in-Err
+returns-in-Err c =
+    let g = c.args.self.now in
+    let facts = c.binary_search_by_key.ensures in
+    let by_name = facts.position (λ e. e.name) (answers_always _ _ _ (λ f a r g called. search rules)) in
+    missing_in_part g.index.entries.items (certificates_of g) g.indexed c.args.house c.args.name c.start_of-start.result c.start_of-end.result (search rules) (search rules)
+    c.in-Err.place (search rules) (rw (c.in-Err.is, c.deref.ensures.value) at by_name)

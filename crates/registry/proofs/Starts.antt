@@ -1,0 +1,185 @@
+-- Where the entries of each house start, and what is found among them. Assumes nothing.
+use Rattle.std.proofs.Common.{◌≡◌, ℕ, ◌+◌, ◌-◌, ◌<◌, ◌≤◌, Bool, true, false, cond, ltb, List, [], length, get_or, take, drop, replicate, Ok, Err, sym, refl, ◌∙◌, subst, inl, inr, arith}
+use Rattle.certificates.specs.declared.Certificate.{Certificate}
+use Rattle.registry.proofs.Indexed.{searched}
+use Rattle.registry.specs.Index.{compared, Place, HouseStart, Starts, start_behind, OfHouses, Indexes, HasRow, Missing}
+use Rattle.registry.specs.declared.Entry.{Entry}
+use Rattle.std.proofs.lemmas.Bool.{cases_eq, cases_lt, cases_order, ltb-true, ltb-false}
+use Rattle.std.proofs.lemmas.Bool.Decides.{nat_tests}
+use Rattle.std.proofs.lemmas.List.{get_or-take, get_or-drop, get_or-replicate, length-take, length-drop}
+use Rattle.std.proofs.lemmas.List.Edits.{length-insert, get_or-insert_below, get_or-insert_at, get_or-insert_above}
+use Rattle.std.specs.List.{insert, HoldsAt}
+use Rattle.std.specs.List.Sorted.{IsNonDecreasingBy, IsPartitionPoint}
+use Rattle.std.specs.Ordering.{nat_cmp, ordering_index}
+use Rattle.std.specs.declared.cmp.Ordering.{Ordering}
+use Rattle.std.specs.declared.cmp.Ordering.TheVariants.{Less, Equal, Greater}
+
+-- the same entry for lists that may be empty
+any : Entry
+any = record { house = 0; name = 0; row = 0 }
+
+module _ (e : Entry) (house name : ℕ) where
+  low_of : compared house name e ≡ Less → e.house ≤ house
+  low_of stands = grind (arith, nat_tests)
+
+  high_of : compared house name e ≡ Greater → house ≤ e.house
+  high_of stands = grind (arith, nat_tests)
+
+  of_lower : e.house < house → compared house name e ≡ Less
+  of_lower lower = grind (arith, nat_tests)
+
+  of_higher : house < e.house → compared house name e ≡ Greater
+  of_higher higher = grind (arith, nat_tests)
+
+  of_same : e.house ≡ house → compared house name e ≡ nat_cmp e.name name
+  of_same same = grind (arith, nat_tests)
+
+name_below : (e f : Entry) → e.house ≡ f.house → compared f.house f.name e ≡ Less → e.name < f.name
+name_below e f same stands = grind (arith, nat_tests)
+
+index_rises : (m n name : ℕ) → m < n → ordering_index (nat_cmp m name) ≤ ordering_index (nat_cmp n name)
+index_rises m n name less = grind (arith, nat_tests)
+
+-- without entries each house starts at 0
+pub no_starts : (starts : List ℕ) (es : List Entry) → starts ≡ replicate 1024 0 → es ≡ [] → Starts starts es
+no_starts starts es zeros none house small =
+    rw (none, zeros, get_or-replicate {A = ℕ} 1024 house 0 0 small)
+    (omega arith, ((λ k d low less. let never : ⊥ = omega arith in absurd never), (λ k d low less. let never : ⊥ = omega arith in absurd never)))
+
+-- a house's entries end where those of the next start
+pub starts_in_order : (es : List Entry) (house start end : ℕ) → HouseStart es house start → HouseStart es (house + 1) end → start ≤ end
+starts_in_order es house start end from to = elim (cases_lt end start) [
+  | inl before ↦
+      let low = from.1.0 end any (omega arith) before in
+      let high = to.1.1 end any (omega arith) (omega (arith, from.0)) in
+      omega (arith, low, high)
+  | inr behind ↦ behind
+]
+
+module _ (es : List Entry) (place : ℕ) (x : Entry) (at : Place es x.house x.name place) where
+  -- what holds of the entries behind one that comes, one place later
+  at_inserted : (P : Entry → Type 0) (j : ℕ) (d : Entry) → (j < place → P (get_or es j d)) → (j ≡ place → P x) → (place < j → P (get_or es (j - 1) d)) → P (get_or (insert es place x) j d)
+  at_inserted P j d front here back = elim (cases_order j place) [
+    | inl same ↦ subst P (sym (rw same (get_or-insert_at es place x d at.within))) (here same)
+    | inr (inl below) ↦ subst P (sym (get_or-insert_below es place x d j below at.within)) (front below)
+    | inr (inr above) ↦
+        let next : j - 1 + 1 ≡ j = omega arith in
+        subst P (sym (rw next at (get_or-insert_above es place x d (j - 1) (omega arith) at.within))) (back above)
+  ]
+
+  long : length (insert es place x) ≡ length es + 1
+  long = length-insert es place x at.within
+
+  pub of_houses : x.house < 1024 → OfHouses es → OfHouses (insert es place x)
+  of_houses small all j d low less =
+      at_inserted (λ e. e.house < 1024) j d (λ front. all j d (omega arith) (omega (arith, at.within))) (λ same. small) (λ back. all (j - 1) d (omega arith) (omega (arith, long)))
+
+  module _ (house start : ℕ) (was : HouseStart es house start) where
+    -- the new entry of a house below stands before its start
+    lower : x.house < house → place ≤ start
+    lower below = elim (cases_lt start place) [
+      | inl before ↦
+          let front = low_of (get_or es start x) x.house x.name (at.parted.0 start x (omega arith) before) in
+          let back = was.1.1 start x (omega arith) (omega (arith, at.within)) in
+          omega (arith, front, back)
+      | inr behind ↦ behind
+    ]
+
+    -- that of any other stands behind it
+    others : house ≤ x.house → start ≤ place
+    others above = elim (cases_lt place start) [
+      | inl before ↦
+          let back = high_of (get_or es place x) x.house x.name (at.parted.1 place x (omega arith) (omega (arith, was.0))) in
+          let front = was.1.0 place x (omega arith) before in
+          omega (arith, front, back)
+      | inr behind ↦ behind
+    ]
+
+    pub start_moved : HouseStart (insert es place x) house (start_behind x.house house start)
+    start_moved = go (ltb x.house house) refl
+      where
+        go : (b : Bool) → ltb x.house house ≡ b → HouseStart (insert es place x) house (cond b (start + 1) start)
+        go true is =
+            let below = ltb-true x.house house is in
+            let far = lower below in (
+              omega (arith, long, was.0),
+              (
+                (λ j d low less.
+                    at_inserted (λ e. e.house < house) j d (λ front. was.1.0 j d (omega arith) (omega (arith, far))) (λ same. below) (λ back. was.1.0 (j - 1) d (omega arith) (omega arith))),
+                (λ j d low less.
+                    at_inserted (λ e. house ≤ e.house) j d (λ front. let never : ⊥ = omega (arith, far) in absurd never) (λ same. let never : ⊥ = omega (arith, far) in absurd never) (λ back. was.1.1 (j - 1) d (omega arith) (omega (arith, long)))),
+              ),
+            )
+        go false is =
+            let above = ltb-false x.house house is in
+            let near = others above in (
+              omega (arith, long, was.0),
+              (
+                (λ j d low less.
+                    at_inserted (λ e. e.house < house) j d (λ front. was.1.0 j d (omega arith) less) (λ same. let never : ⊥ = omega (arith, near) in absurd never) (λ back. let never : ⊥ = omega (arith, near) in absurd never)),
+                (λ j d low less.
+                    at_inserted (λ e. house ≤ e.house) j d (λ front. was.1.1 j d (omega arith) (omega (arith, at.within))) (λ same. above) (λ back. was.1.1 (j - 1) d (omega (arith, near)) (omega (arith, long)))),
+              ),
+            )
+
+module _ (es : List Entry) (cs : List Certificate) (so : Indexes es cs) (house name start end : ℕ) (from : HouseStart es house start) (to : HouseStart es (house + 1) end) where
+  abbrev part : List Entry
+  part = take (end - start) (drop start es)
+
+  in_part : (k : ℕ) (d : Entry) → start + k < end → get_or part k d ≡ get_or es (start + k) d
+  in_part k d within = get_or-take (end - start) (drop start es) k d (omega arith) ∙ get_or-drop start es k d
+
+  length_part : length part ≡ end - start
+  length_part = let ordered = starts_in_order es house start end from to in omega (arith, ordered, to.0, length-take (end - start) (drop start es), length-drop start es)
+
+  house_of_part : (k : ℕ) (d : Entry) → start + k < end → (get_or es (start + k) d).house ≡ house
+  house_of_part k d within =
+      let low = from.1.1 (start + k) d (omega arith) (omega (arith, to.0)) in
+      let high = to.1.0 (start + k) d (omega arith) within in
+      omega (arith, low, high)
+
+  -- so they rise by name, and can be halved by it
+  part_rises : IsNonDecreasingBy (λ e. ordering_index (nat_cmp e.name name)) part
+  part_rises i j d upto within =
+      let long = length_part in
+      let less : start + j < end = omega arith in
+      let first : start + i < end = omega arith in
+      rw (in_part i d first, in_part j d less)
+      (elim (cases_eq i j) [
+        | inl same ↦ rw same (omega arith)
+        | inr other ↦
+            let one = get_or es (start + i) d in
+            let two = get_or es (start + j) d in
+            let below = name_below one two (house_of_part i d first ∙ sym (house_of_part j d less)) (so.rising (start + i) (start + j) d (omega arith) (omega (arith, to.0))) in
+            index_rises one.name two.name name below
+      ])
+
+  -- what stands in the house's entries stands in all, so much further back
+  at_part : (o : Ordering) (k : ℕ) (d : Entry) → start + k < end → nat_cmp (get_or part k d).name name ≡ o → compared house name (get_or es (start + k) d) ≡ o
+  at_part o k d within is = of_same (get_or es (start + k) d) house name (house_of_part k d within) ∙ rw (in_part k d within) at is
+
+  pub found_in_part : (k : ℕ) → k < length part → HoldsAt (λ e. nat_cmp e.name name ≡ Equal) part k → HasRow es cs house name (start + k)
+  found_in_part k less at =
+      let within : start + k < end = omega (arith, length_part) in
+      searched es cs so house name (Ok (start + k)) (omega (arith, to.0)) (λ d. at_part Equal k d within (at d))
+
+  pub missing_in_part : (k : ℕ) → k ≤ length part → (IsNonDecreasingBy (λ e. ordering_index (nat_cmp e.name name)) part → IsPartitionPoint (λ e. nat_cmp e.name name ≡ Less) (λ e. nat_cmp e.name name ≡ Greater) part k) →
+      Missing es cs house name (start + k)
+  missing_in_part k upto parted =
+      let (low, high) = parted part_rises in
+      let long = length_part in
+      let ordered = starts_in_order es house start end from to in
+      searched es cs so house name (Err (start + k)) (omega (arith, to.0)) (λ sorted. (
+        (λ j d low' less. elim (cases_lt j start) [
+          | inl front ↦ of_lower (get_or es j d) house name (from.1.0 j d (omega arith) front)
+          | inr own ↦
+              let place : start + (j - start) ≡ j = omega arith in
+              rw place at (at_part Less (j - start) d (omega arith) (low (j - start) d (omega arith) (omega arith)))
+        ]),
+        (λ j d low' less. elim (cases_lt j end) [
+          | inl own ↦
+              let place : start + (j - start) ≡ j = omega arith in
+              rw place at (at_part Greater (j - start) d (omega arith) (high (j - start) d (omega arith) (omega arith)))
+          | inr behind ↦ of_higher (get_or es j d) house name (let high' = to.1.1 j d behind less in omega (arith, high'))
+        ]),
+      ))

@@ -1,0 +1,58 @@
+// The names that certificates state, in order, and where those of each house start.
+ghost use Rattle.std.specs.Prelude.{◌≡◌, ℕ, ◌+◌, ◌<◌, ◌≤◌, [], length, vec_len, vec_capacity, slice_index, IfOk};
+ghost use Rattle.registry.specs.Index.{Place, HouseStart, start_behind};
+ghost use Rattle.std.specs.List.{insert};
+
+use crate::{Entry, Index, MOST_CERTIFICATES};
+use std::alloc::{AllocError, Global};
+
+// How many houses there are.
+const HOUSES: usize = 1024;
+
+// A house got an entry: those of higher houses start one place later.
+fn start_behind(starts: &mut Vec<u16>, house: u16)
+    requires { (h : ℕ) → slice_index starts.old.items h ≤ 1024 }
+    ensures whole { vec_len starts.new ≡ vec_len starts.old }
+    ensures starts { (h : ℕ) → h < vec_len starts.old → slice_index starts.new.items h ≡ start_behind house h (slice_index starts.old.items h) }
+{
+    for (other, start) in starts.iter_mut().enumerate() {
+        if other > usize::from(house) {
+            *start += 1;
+        }
+    }
+}
+
+impl Index {
+    // No entries yet, and room for as many as certificates.
+    #[tactic(auto, using(crate::proofs::Starts::no_starts))]
+    pub(crate) fn new(heap: Global) -> Result<Index, AllocError>
+        ensures { IfOk result (λ index. index.entries.items ≡ []) }
+    {
+        let entries = Vec::with_capacity(heap, MOST_CERTIFICATES)?;
+        let starts = vec![in heap; 0u16; HOUSES]?;
+        Ok(Index { entries, starts })
+    }
+
+    // How many entries are of houses below this one: the place where its own start.
+    pub(crate) fn start_of(&self, house: usize) -> usize
+        ensures { HouseStart self.now.entries.items house result }
+    {
+        match self.starts.get(house) {
+            Some(start) => usize::from(*start),
+            // behind the last house: all entries are of houses below
+            None => self.entries.len(),
+        }
+    }
+
+    // An entry comes, at its place.
+    pub(crate) fn enter(&mut self, place: usize, entry: Entry)
+        requires place { Place self.old.entries.items entry.house entry.name place }
+        requires house { entry.house < 1024 }
+        requires few { vec_len self.old.entries < 1024 }
+        ensures { self.new.entries.items ≡ insert self.old.entries.items place entry }
+    {
+        start_behind(&mut self.starts, entry.house);
+        // room for as many names as certificates is reserved
+        self.entries.insert(place, entry).unwrap();
+    }
+}
