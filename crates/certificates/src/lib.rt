@@ -7,6 +7,9 @@ ghost use Rattle.certificates.specs.Certificates.{names_of, in_range, valid, Val
 pub mod laws;
 pub mod rights;
 
+// How many houses there are.
+pub const HOUSES: usize = 1024;
+
 // Houses are numbered from 0 to this one.
 pub const LAST_HOUSE: u16 = 1023;
 

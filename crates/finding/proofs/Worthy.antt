@@ -15,7 +15,7 @@ use Rattle.std.proofs.lemmas.Bool.{and_parts, leb-true}
 use Rattle.turns.specs.Ways.{rising}
 
 module _ (cs : List Certificate) (q : Question) (covers : Covers (rising 1024) cs) (few : length cs ≤ 1024) where
-  kept_lines : (lines : List Line) → sheet_for cs q ≡ Some lines → Kept 1024 cs q.day q.right q.owner q.house lines
+  pub kept_lines : (lines : List Line) → sheet_for cs q ≡ Some lines → Kept 1024 cs q.day q.right q.owner q.house lines
   kept_lines lines is = (finds_lawfully 1024 cs covers q.day q.right q.owner).kept q.house lines is
 
   pub found_allowed : (lines : List Line) → sheet_for cs q ≡ Some lines → Allowed cs q

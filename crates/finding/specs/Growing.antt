@@ -1,9 +1,10 @@
--- What a request without lines is told: the request with its sheet, or whether the house may. Assumes nothing.
-use Rattle.std.specs.Prelude.{◌≡◌, ℕ, ◌⊎◌, Bool, true, false, cond, ◌&&◌, List, [], ◌∷◌, length, Some, None, Ok, Err, vec_items, Vec, Result, ◌==◌, nat_le}
+-- What a request without lines is told: the request with its sheet, or whether the house may, and to which day. Assumes nothing.
+use Rattle.std.specs.Prelude.{◌≡◌, ℕ, ◌⊎◌, Bool, true, false, cond, ◌&&◌, List, [], ◌∷◌, length, Some, None, Ok, Err, vec_items, Vec, Option, option_map, Result, ◌^◌, ◌<◌, ◌≤◌, ◌==◌, nat_le}
+use Rattle.certificates.specs.Meaning.{May}
 use Rattle.certificates.specs.declared.Certificate.{Certificate}
 use Rattle.finding.specs.Asking.{head_of, sheet_for, Filled, Untouched, Unsought}
 use Rattle.promise.specs.Requests.{question_of, receive}
-use Rattle.finding.specs.Worth.{Allowed, gate_of}
+use Rattle.finding.specs.Worth.{Allowed, gate_of, last_day}
 use Rattle.finding.specs.declared.sheets_found.Unfound.{Unfound}
 use Rattle.finding.specs.declared.sheets_found.Unfound.TheVariants.{NoSheet, TooShort, Malformed, OutOfRange, NoMemory, WrongSize}
 use Rattle.round_lines.specs.Lines.{right_size}
@@ -24,6 +25,17 @@ module _ (cs : List Certificate) (q : Question) where
   abbrev pub MayTold : List ℕ → List ℕ → List ℕ → List ℕ → Result Bool Unfound → Type 0
   MayTold names numbers names' numbers' (Ok may) = Decides may (Allowed cs q) × Filled cs q names numbers names' numbers'
   MayTold names numbers names' numbers' (Err unfound) = Unsought cs q names numbers names' numbers' unfound
+
+  -- the house may on all days from the question's to this one; without one it may not on the question's. Days end before 2 ^ 32
+  abbrev pub MayTo : Option ℕ → Type 0
+  MayTo None = Allowed cs q → ⊥
+  MayTo (Some last) = (q.day < 2 ^ 32 → q.day ≤ last) × ((day : ℕ) → q.day ≤ day → day ≤ last → May cs day q.right q.owner q.house)
+
+  -- To which day the sheet holds that is found; where it isn't told there is a reason, and lent memory is as it was.
+  abbrev pub UntilTold : List ℕ → List ℕ → List ℕ → List ℕ → Result (Option ℕ) Unfound → Type 0
+  UntilTold names numbers names' numbers' (Ok until) =
+      (until ≡ option_map (last_day cs) (sheet_for cs q)) × MayTo until × Filled cs q names numbers names' numbers'
+  UntilTold names numbers names' numbers' (Err unfound) = Unsought cs q names numbers names' numbers' unfound
 
 -- A request without lines: looked at as a gate looks at a head; then it has no lines, and nothing follows its head.
 abbrev pub without_lines : Head → List ℕ → Result Head Unfound

@@ -1,5 +1,5 @@
 -- What the answers of finding are worth: by the meaning of the certificates, and at a gate. Assumes nothing.
-use Rattle.std.specs.Prelude.{◌≡◌, ℕ, ◌*◌, ◌≤◌, true, false, List, [], ◌∷◌, length, take, Some, None, Ok, Err, Option, Result, is_some, vec_items}
+use Rattle.std.specs.Prelude.{◌≡◌, ℕ, ◌*◌, ◌^◌, ◌<◌, ◌≤◌, true, List, [], ◌∷◌, length, take, min, Some, None, Ok, Err, Option, Result, is_some, vec_items}
 use Rattle.certificates.specs.Certificates.{WellFormed}
 use Rattle.certificates.specs.Meaning.{May}
 use Rattle.certificates.specs.declared.Certificate.{Certificate}
@@ -14,10 +14,9 @@ use Rattle.promise.specs.Promise.{Bytes, request_bytes}
 use Rattle.promise.specs.declared.heads.Head.{Head}
 use Rattle.promise.specs.States.{State}
 use Rattle.promise.specs.declared.answers.Answer.TheVariants.{Open}
-use Rattle.round_lines.specs.Lines.{right_size}
 use Rattle.round_lines.specs.declared.lines.Lines.{Lines}
 use Rattle.sheets.specs.Passing.{askable}
-use Rattle.sheets.specs.Sheets.{Line}
+use Rattle.sheets.specs.Sheets.{Line, certificate_at}
 use Rattle.sheets.specs.declared.checking.Question.{Question}
 use Rattle.std.specs.Bool.{Decides}
 use Rattle.std.specs.List.{AllByRecursion}
@@ -35,6 +34,11 @@ fault_of (TooShort needed) = None
 fault_of NoMemory = None
 fault_of WrongSize = None
 
+-- the last day on which the certificates of all these lines are valid; without lines it is the last day that there is
+unfoldable pub last_day : List Certificate → List Line → ℕ
+last_day cs [] = 4294967295
+last_day cs (l ∷ lines) = min (certificate_at cs l.certificate).last (last_day cs lines)
+
 module _ (cs : List Certificate) (q : Question) where
   -- the house may
   abbrev pub Allowed : Type 0
@@ -48,12 +52,17 @@ module _ (cs : List Certificate) (q : Question) where
   abbrev pub OpenedBy : List Line → Type 0
   OpenedBy lines = AllByRecursion WellFormed cs → (receive gate_of (request_bytes q.house q.right lines)).1 ≡ Open ∷ []
 
-  -- The lines on which what is wanted rests are the sheet's, and open the gate; where nothing is wanted there is no sheet.
+  -- the house may on the question's day, and on all days from there to the last on which the lines' certificates are valid
+  abbrev pub LastsBy : List Line → Type 0
+  LastsBy lines = (q.day < 2 ^ 32 → q.day ≤ last_day cs lines) × ((day : ℕ) → q.day ≤ day → day ≤ last_day cs lines → May cs day q.right q.owner q.house)
+
+  -- The lines on which what is wanted rests are the sheet's, open the gate, and hold as long as their certificates; where nothing is wanted there is no sheet.
   abbrev pub SheetBy : Lines → List ℕ → Option Wanted → Type 0
   SheetBy lines numbers None = sheet_for cs q ≡ None
   SheetBy lines numbers (Some w) =
       (sheet_for cs q ≡ Some (kept_by cs q.owner (lines_found cs (vec_items lines.found)) (line_of_wanted w) numbers (vec_items lines.right_lines)))
       × OpenedBy (kept_by cs q.owner (lines_found cs (vec_items lines.found)) (line_of_wanted w) numbers (vec_items lines.right_lines))
+      × LastsBy (kept_by cs q.owner (lines_found cs (vec_items lines.found)) (line_of_wanted w) numbers (vec_items lines.right_lines))
 
   -- All lines were found, no more than there can be, and what is wanted, exactly where the house may; or there is a reason why not, and memory is as it was.
   abbrev pub WantedFound : List ℕ → List ℕ → List ℕ → List ℕ → Result (Lines × Option Wanted) Unfound → Type 0
@@ -61,9 +70,9 @@ module _ (cs : List Certificate) (q : Question) where
       (askable q ≡ true) × Filled cs q names numbers names' numbers' × (length (vec_items p.0.found) ≤ length cs * 1024) × Decides (is_some p.1) Allowed × SheetBy p.0 numbers' p.1
   WantedFound names numbers names' numbers' (Err unfound) = Unsought cs q names numbers names' numbers' unfound
 
-  -- the house may and the kept lines open the gate, or there is no sheet and it may not
+  -- the house may, and the kept lines open the gate and hold as long as their certificates; or there is no sheet and it may not
   abbrev pub KeptWorth : Result KeptLines Unfound → Type 0
-  KeptWorth (Ok kept) = Allowed × OpenedBy (lines_of_kept cs kept)
+  KeptWorth (Ok kept) = Allowed × OpenedBy (lines_of_kept cs kept) × LastsBy (lines_of_kept cs kept)
   KeptWorth (Err NoSheet) = Allowed → ⊥
   KeptWorth (Err (TooShort needed)) = Unit {0}
   KeptWorth (Err Malformed) = Unit {0}

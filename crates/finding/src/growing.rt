@@ -1,7 +1,7 @@
-// What a request without lines is told: its sheet, for which room is made, or whether the house may.
-// The lent slices go side by side, a rule of the project.
+// What a request without lines is told: its sheet, for which room is made, or whether the house may, and to which day.
+// The lent slices go side by side, and a reader's answer is taken apart by `let .. else`: rules of the project.
 ghost use Rattle.std.specs.Prelude.{◌≡◌};
-ghost use Rattle.finding.specs.Growing.{MayTold, bare_head, HeadTold};
+ghost use Rattle.finding.specs.Growing.{MayTold, UntilTold, bare_head, HeadTold};
 ghost use Rattle.promise.specs.Promise.{Bytes};
 ghost use Rattle.registry.specs.Numbered.{certificates_of};
 
@@ -61,4 +61,20 @@ pub fn may(
 {
     let (_, wanted) = find_wanted(heap, registry, question, names, name_lines)?;
     Ok(wanted.is_some())
+}
+
+// To which day the house may, from the question's on, by the sheet that is found: it holds as long as all its certificates are valid. None where the house may not.
+pub fn may_until(
+    heap: Global,
+    registry: &Registry,
+    question: &Question,
+    names: &mut [u64],
+    name_lines: &mut [u32],
+) -> Result<Option<u32>, Unfound>
+    ensures { UntilTold (certificates_of registry.now) question.now names.old name_lines.old names.new name_lines.new result }
+{
+    match find_kept(heap, registry, question, names, name_lines) {
+        Err(Unfound::NoSheet) => Ok(None),
+        kept => Ok(Some(kept?.last_day(registry))),
+    }
 }

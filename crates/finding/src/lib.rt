@@ -3,6 +3,7 @@
 
 pub mod growing;
 pub(crate) mod kept_lines;
+pub(crate) mod lasting;
 pub mod laws;
 pub(crate) mod refusals;
 pub(crate) mod searching;

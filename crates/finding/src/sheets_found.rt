@@ -1,4 +1,5 @@
-// A sheet is found for a question, and written into the free end of a request. The lent slices go side by side, a rule of the project.
+// A sheet is found for a question, and written into the free end of a request.
+// The lent slices go side by side, and a reader's answer is taken apart by `let .. else`: rules of the project.
 ghost use Rattle.std.specs.Prelude.{◌≡◌};
 ghost use Rattle.finding.specs.Asking.{Answered, head_of, HeadAnswered};
 ghost use Rattle.finding.specs.Worth.{Worth, OpensAsked, RequestWorth, fault_of};

@@ -1,17 +1,19 @@
-// Requests: a house asks for a right, and shows a sheet.
+// Requests: a house asks for a right, and shows a sheet. A reader's answer is taken apart by `let .. else`, a rule of the project.
 ghost use Rattle.std.specs.Prelude.{◌≡◌, ◌<◌, length, IfOk, Some, MatchResult};
 ghost use Rattle.gates.specs.Gates.{state_of, LinesLookedAt};
 ghost use Rattle.promise.specs.Promise.{KeptAnswer};
 ghost use Rattle.promise.specs.Requests.{take_head, answer, answer_head, decided, AnsweredByFront, left_by, left_by_head};
 
 use crate::Gate;
+use certificates::HOUSES;
 use promise::answers::Answer;
 use promise::heads::{Head, read_head};
+use registry::MOST_CERTIFICATES;
 use sheets::checking::{ShortMemory, check};
 use wire::faults::Fault;
 
 // The most bytes that a request can have: a head, and as many lines of six steps as there may be.
-pub const LONGEST_REQUEST: usize = 8 + 1024 * 1024 * 14;
+pub const LONGEST_REQUEST: usize = 8 + MOST_CERTIFICATES * HOUSES * 14;
 
 impl Gate {
     // Looks at the head, and then at the lines: nothing, or the fault for which the request is refused.
@@ -28,7 +30,7 @@ impl Gate {
         if !question.in_range() {
             return Ok(Err(Fault::OutOfRange));
         }
-        if head.lines as usize > self.registry.len() * 1024 {
+        if head.lines as usize > self.registry.len() * HOUSES {
             return Ok(Err(Fault::TooManyLines));
         }
         check(&self.registry, &question, head.lines, lines, memory)

@@ -1,70 +1,55 @@
--- The next change by some certificates, and one more. Assumes nothing.
-use Rattle.std.proofs.Common.{◌≡◌, ℕ, zero, suc, ◌+◌, ◌^◌, ◌<◌, ◌≤◌, Bool, true, false, min, cond, List, [], ◌∷◌, length, Some, None, Option, ◌⊎◌, inl, inr, refl, ap, subst, arith}
+-- The next day on which some certificate begins, and one certificate more. Assumes nothing.
+use Rattle.std.proofs.Common.{◌≡◌, ℕ, zero, suc, ◌^◌, ◌<◌, ◌≤◌, min, List, [], ◌∷◌, length, Some, None, Option, ◌⊎◌, inl, inr, refl, ap, subst, arith}
 use Rattle.std.proofs.lemmas.Bool.{cases_lt, lt-ltb, le-ltb}
 use Rattle.std.proofs.lemmas.Bool.Decides.{nat_tests}
-use Rattle.certificates.specs.Certificates.{valid}
 use Rattle.certificates.specs.declared.Certificate.{Certificate}
-use Rattle.inquiries.specs.Changes.{Keeps, Turns, a_day, next_of, NextOf, next_among, until, TurnsOn, NextChange}
+use Rattle.inquiries.specs.Changes.{Waits, Begins, a_day, begin_of, BeginOf, begin_among, until, BeginsOn, NextBegin}
 use Rattle.registry.specs.Numbered.{certificate_at}
-use Rattle.sheets.proofs.Shown.{impossible, valid_true}
 use Rattle.std.specs.List.{cons_option, fold, reduce}
 
--- what counts of the certificate is another on that day
-abbrev Turned : Bool → ℕ → Option ℕ → Certificate → Type 0
-Turned allowed day None c = Unit {0}
-Turned allowed day (Some next) c = (next < 2 ^ 32) × Turns allowed day next c
+-- the certificate begins on that day
+abbrev Begun : ℕ → Option ℕ → Certificate → Type 0
+Begun day None c = Unit {0}
+Begun day (Some next) c = (next < 2 ^ 32) × Begins day next c
 
 -- what is known of one certificate's next day
-record Next (allowed : Bool) (day : ℕ) (next : Option ℕ) (c : Certificate) : Type 0 where
+record Next (day : ℕ) (next : Option ℕ) (c : Certificate) : Type 0 where
   later : day < until next
   fits : until next ≤ 2 ^ 32
-  keeps : Keeps allowed day (until next) c
-  turned : Turned allowed day next c
+  waits : Waits day (until next) c
+  begun : Begun day next c
 
-keeps_less : (allowed : Bool) (day u v : ℕ) (c : Certificate) → v ≤ u → Keeps allowed day u c → Keeps allowed day v c
-keeps_less allowed day u v c less keeps now other from below = keeps now other from (omega arith)
+waits_less : (day u v : ℕ) (c : Certificate) → v ≤ u → Waits day u c → Waits day v c
+waits_less day u v c less waits now other from below = waits now other from (omega arith)
 
 module _ (day : ℕ) (small : day < 2 ^ 32) where
-  -- it turns on a day, or days end before
-  turns_at : (allowed : Bool) (n : ℕ) (c : Certificate) → day < n → Keeps allowed day n c → Turns allowed day n c → Next allowed day (a_day n) c
-  turns_at allowed n c later keeps turns = elim (cases_lt n (2 ^ 32)) [
-    | inl less ↦ rw (lt-ltb n (2 ^ 32) less) (record { later = later; fits = omega arith; keeps = keeps; turned = (less, turns) })
-    | inr past ↦ rw (le-ltb n (2 ^ 32) past) (record { later = small; fits = omega arith; keeps = keeps_less allowed day n (2 ^ 32) c past keeps; turned = tt })
+  -- it begins on a day, or days end before
+  begins_at : (n : ℕ) (c : Certificate) → day < n → Waits day n c → Begins day n c → Next day (a_day n) c
+  begins_at n c later waits begins = elim (cases_lt n (2 ^ 32)) [
+    | inl less ↦ rw (lt-ltb n (2 ^ 32) less) (record { later = later; fits = omega arith; waits = waits; begun = (less, begins) })
+    | inr past ↦ rw (le-ltb n (2 ^ 32) past) (record { later = small; fits = omega arith; waits = waits_less day n (2 ^ 32) c past waits; begun = tt })
   ]
 
-  keeps_so : (allowed : Bool) (c : Certificate) → Keeps allowed day (2 ^ 32) c → Next allowed day None c
-  keeps_so allowed c keeps = record { later = small; fits = omega arith; keeps = keeps; turned = tt }
+  waits_so : (c : Certificate) → Waits day (2 ^ 32) c → Next day None c
+  waits_so c waits = record { later = small; fits = omega arith; waits = waits; begun = tt }
 
-  -- the house may: the certificate is valid, and ends; or it is not, and cannot take anything away
-  end_is : (c : Certificate) (now : Bool) → valid day c ≡ now → Next true day (cond now (a_day (c.last + 1)) None) c
-  end_is c true now =
-      let v = valid_true day c now in
-      let begun = v.begun in
-      let lasts = v.lasts in
-      turns_at true (c.last + 1) c (omega arith) (λ _ other from below. grind (arith, nat_tests)) (now, grind (arith, nat_tests))
-  end_is c false now = keeps_so true c (λ is other from below. impossible (cc))
-
-  -- the house may not: the certificate begins later, or adds nothing
-  start_is : (c : Certificate) → Next false day (next_of false day c) c
-  start_is c = elim (cases_lt c.last c.first) [
-    | inl never ↦ rw (lt-ltb c.last c.first never) (keeps_so false c (λ now other from below. grind (arith, nat_tests)))
+  -- the certificate begins later, or adds nothing
+  next_is : (c : Certificate) → Next day (begin_of day c) c
+  next_is c = elim (cases_lt c.last c.first) [
+    | inl never ↦ rw (lt-ltb c.last c.first never) (waits_so c (λ now other from below. grind (arith, nat_tests)))
     | inr some ↦ rw (le-ltb c.last c.first some) (elim (cases_lt day c.first) [
-      | inl before ↦ rw (lt-ltb day c.first before) (turns_at false c.first c before (λ now other from below. grind (arith, nat_tests)) (grind (arith, nat_tests), grind (arith, nat_tests)))
-      | inr begun ↦ rw (le-ltb day c.first begun) (keeps_so false c (λ now other from below. grind (arith, nat_tests)))
+      | inl before ↦ rw (lt-ltb day c.first before) (begins_at c.first c before (λ now other from below. grind (arith, nat_tests)) (grind (arith, nat_tests), grind (arith, nat_tests)))
+      | inr begun ↦ rw (le-ltb day c.first begun) (waits_so c (λ now other from below. grind (arith, nat_tests)))
     ])
   ]
 
-  next_is : (allowed : Bool) (c : Certificate) → Next allowed day (next_of allowed day c) c
-  next_is true c = end_is c (valid day c) refl
-  next_is false c = start_is c
-
-as_told : (allowed : Bool) (day : ℕ) (next : Option ℕ) (c : Certificate) → Next allowed day next c → NextOf allowed day next c
-as_told allowed day None c is = is.keeps
-as_told allowed day (Some next) c is = (is.later, is.turned.0, is.keeps, is.turned.1)
+as_told : (day : ℕ) (next : Option ℕ) (c : Certificate) → Next day next c → BeginOf day next c
+as_told day None c is = is.waits
+as_told day (Some next) c is = (is.later, is.begun.0, is.waits, is.begun.1)
 
 -- what is said of the next day is so
-pub next_told : (allowed : Bool) (day : ℕ) (c : Certificate) → day < 2 ^ 32 → NextOf allowed day (next_of allowed day c) c
-next_told allowed day c small = as_told allowed day (next_of allowed day c) c (next_is day small allowed c)
+pub begin_told : (day : ℕ) (c : Certificate) → day < 2 ^ 32 → BeginOf day (begin_of day c) c
+begin_told day c small = as_told day (begin_of day c) c (next_is day small c)
 
 -- the sooner of two days that there may be
 abbrev sooner : Option ℕ → Option ℕ → Option ℕ
@@ -94,40 +79,40 @@ later_sooner day None (Some b) la lb = lb
 later_sooner day (Some a) None la lb = la
 later_sooner day (Some a) (Some b) la lb = omega arith
 
-module _ (allowed : Bool) (day : ℕ) (c : Certificate) (cs : List Certificate) where
-  turns_here : (a : Option ℕ) → Turned allowed day a c → TurnsOn allowed day a (c ∷ cs)
-  turns_here None turned = tt
-  turns_here (Some a) (less, turned) = (less, (0, omega arith, turned))
+module _ (day : ℕ) (c : Certificate) (cs : List Certificate) where
+  begins_here : (a : Option ℕ) → Begun day a c → BeginsOn day a (c ∷ cs)
+  begins_here None begun = tt
+  begins_here (Some a) (less, begun) = (less, (0, omega arith, begun))
 
-  turns_behind : (b : Option ℕ) → TurnsOn allowed day b cs → TurnsOn allowed day b (c ∷ cs)
-  turns_behind None turns = tt
-  turns_behind (Some b) (less, (i, few, turned)) = (less, (suc i, omega arith, turned))
+  begins_behind : (b : Option ℕ) → BeginsOn day b cs → BeginsOn day b (c ∷ cs)
+  begins_behind None begins = tt
+  begins_behind (Some b) (less, (i, few, begun)) = (less, (suc i, omega arith, begun))
 
-  turns_sooner : (a b : Option ℕ) → TurnsOn allowed day a (c ∷ cs) → TurnsOn allowed day b (c ∷ cs) → TurnsOn allowed day (sooner a b) (c ∷ cs)
-  turns_sooner None b ta tb = tb
-  turns_sooner (Some a) None ta tb = ta
-  turns_sooner (Some a) (Some b) ta tb = either (cases_lt a b)
+  begins_sooner : (a b : Option ℕ) → BeginsOn day a (c ∷ cs) → BeginsOn day b (c ∷ cs) → BeginsOn day (sooner a b) (c ∷ cs)
+  begins_sooner None b ta tb = tb
+  begins_sooner (Some a) None ta tb = ta
+  begins_sooner (Some a) (Some b) ta tb = either (cases_lt a b)
     where
-      either : (a < b) ⊎ (b ≤ a) → TurnsOn allowed day (Some (min a b)) (c ∷ cs)
-      either (inl less) = let e : a ≡ min a b = omega arith in subst (λ n. TurnsOn allowed day (Some n) (c ∷ cs)) e ta
-      either (inr more) = let e : b ≡ min a b = omega arith in subst (λ n. TurnsOn allowed day (Some n) (c ∷ cs)) e tb
+      either : (a < b) ⊎ (b ≤ a) → BeginsOn day (Some (min a b)) (c ∷ cs)
+      either (inl less) = let e : a ≡ min a b = omega arith in subst (λ n. BeginsOn day (Some n) (c ∷ cs)) e ta
+      either (inr more) = let e : b ≡ min a b = omega arith in subst (λ n. BeginsOn day (Some n) (c ∷ cs)) e tb
 
-  one_more : (a b : Option ℕ) → Next allowed day a c → NextChange allowed day b cs → NextChange allowed day (sooner a b) (c ∷ cs)
+  one_more : (a b : Option ℕ) → Next day a c → NextBegin day b cs → NextBegin day (sooner a b) (c ∷ cs)
   one_more a b one others =
       let less = until_sooner a b one.fits others.fits in
       record {
         later = later_sooner day a b one.later others.later;
         fits = omega arith;
-        all_keep = keep;
-        turns = turns_sooner a b (turns_here a one.turned) (turns_behind b others.turns);
+        all_wait = wait;
+        begins = begins_sooner a b (begins_here a one.begun) (begins_behind b others.begins);
       }
     where
-      keep : (i : ℕ) → i < suc (length cs) → Keeps allowed day (until (sooner a b)) (certificate_at (c ∷ cs) i)
-      keep zero few = keeps_less allowed day (until a) (until (sooner a b)) c (until_sooner a b one.fits others.fits).0 one.keeps
-      keep (suc i) few = keeps_less allowed day (until b) (until (sooner a b)) (certificate_at cs i) (until_sooner a b one.fits others.fits).1 (others.all_keep i (omega arith))
+      wait : (i : ℕ) → i < suc (length cs) → Waits day (until (sooner a b)) (certificate_at (c ∷ cs) i)
+      wait zero few = waits_less day (until a) (until (sooner a b)) c (until_sooner a b one.fits others.fits).0 one.waits
+      wait (suc i) few = waits_less day (until b) (until (sooner a b)) (certificate_at cs i) (until_sooner a b one.fits others.fits).1 (others.all_wait i (omega arith))
 
 -- the soonest of all is the next one
-pub next_change : (allowed : Bool) (day : ℕ) (cs : List Certificate) → day < 2 ^ 32 → NextChange allowed day (next_among allowed day cs) cs
-next_change allowed day [] small = record { later = small; fits = omega arith; all_keep = λ i none. absurd (omega arith); turns = tt }
-next_change allowed day (c ∷ cs) small =
-    rw least_more (one_more allowed day c cs (next_of allowed day c) (next_among allowed day cs) (next_is day small allowed c) (next_change allowed day cs small))
+pub next_begin : (day : ℕ) (cs : List Certificate) → day < 2 ^ 32 → NextBegin day (begin_among day cs) cs
+next_begin day [] small = record { later = small; fits = omega arith; all_wait = λ i none. absurd (omega arith); begins = tt }
+next_begin day (c ∷ cs) small =
+    rw least_more (one_more day c cs (begin_of day c) (begin_among day cs) (next_is day small c) (next_begin day cs small))

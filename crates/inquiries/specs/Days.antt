@@ -1,8 +1,9 @@
 -- On which days a house may, and what that is worth after any deliveries. Assumes nothing.
-use Rattle.std.specs.Prelude.{◌≡◌, ℕ, Bool, false, ◌⊎◌, List, Ok, Err, vec_items, Vec, Result}
+use Rattle.std.specs.Prelude.{◌≡◌, ℕ, false, ◌⊎◌, List, Ok, Err, is_some, vec_items, Vec, Option, Result}
 use Rattle.certificates.specs.Meaning.{May}
 use Rattle.certificates.specs.declared.Certificate.{Certificate}
 use Rattle.finding.specs.Asking.{Filled, Untouched}
+use Rattle.finding.specs.Growing.{MayTo}
 use Rattle.finding.specs.declared.sheets_found.Unfound.{Unfound}
 use Rattle.finding.specs.declared.sheets_found.Unfound.TheVariants.{NoSheet, TooShort, Malformed, OutOfRange, NoMemory, WrongSize}
 use Rattle.inquiries.specs.Spans.{SpansOf, so_far, gone_on}
@@ -16,7 +17,6 @@ use Rattle.promise.specs.declared.heads.Head.{Head}
 use Rattle.round_lines.specs.Lines.{right_size}
 use Rattle.sheets.specs.Passing.{askable}
 use Rattle.sheets.specs.declared.checking.Question.{Question}
-use Rattle.std.specs.Bool.{Decides}
 use Rattle.std.specs.List.{AllByRecursion}
 use Rattle.std.specs.declared.alloc.Global.{Global}
 
@@ -33,10 +33,10 @@ pub data Left (cs : List Certificate) (q : Question) (names numbers : List ℕ) 
   as_it_was : {names' numbers' : List ℕ} → names' ≡ names → numbers' ≡ numbers → Left cs q names numbers names' numbers'
   by_finding : {names' numbers' : List ℕ} (day : ℕ) (names₀ numbers₀ : List ℕ) → Filled cs (on_day q day) names₀ numbers₀ names' numbers' → Left cs q names numbers names' numbers'
 
--- what asking on a day comes to: whether the house may is known, and the spans go on; or why not
-abbrev pub AskedOn : List Certificate → Question → ℕ → List ℕ → List ℕ → List ℕ → List ℕ → SpansSoFar → SpansSoFar → Result Bool Unfound → Type 0
-AskedOn cs q day names numbers names' numbers' spans spans' (Ok may) =
-    Decides may (MayOn cs q day) × (so_far spans' ≡ gone_on (vec_items spans.done) spans.since day may) × Filled cs (on_day q day) names numbers names' numbers'
+-- what asking on a day comes to: it is known to which day the house may, if it does, and the spans go on; or why not
+abbrev pub AskedOn : List Certificate → Question → ℕ → List ℕ → List ℕ → List ℕ → List ℕ → SpansSoFar → SpansSoFar → Result (Option ℕ) Unfound → Type 0
+AskedOn cs q day names numbers names' numbers' spans spans' (Ok may_to) =
+    MayTo cs (on_day q day) may_to × (so_far spans' ≡ gone_on (vec_items spans.done) spans.since day (is_some may_to)) × Filled cs (on_day q day) names numbers names' numbers'
 AskedOn cs q day names numbers names' numbers' spans spans' (Err NoMemory) = Filled cs (on_day q day) names numbers names' numbers' ⊎ Untouched cs (on_day q day) names numbers names' numbers'
 AskedOn cs q day names numbers names' numbers' spans spans' (Err OutOfRange) = (askable q ≡ false) × Untouched cs (on_day q day) names numbers names' numbers'
 AskedOn cs q day names numbers names' numbers' spans spans' (Err WrongSize) = (right_size names numbers ≡ false) × Untouched cs (on_day q day) names numbers names' numbers'

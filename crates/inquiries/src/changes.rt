@@ -1,23 +1,17 @@
-// On which day what a house may can change next. Where it may, only a certificate that is valid no longer takes that away; where it may not, only one that begins gives it.
+// On which day it can change next whether a house may. Where it may, the sheet that was found holds to a last day; where it may not, only a certificate that begins gives it that.
 ghost use Rattle.std.specs.Prelude.{◌≡◌};
-ghost use Rattle.inquiries.specs.Changes.{next_of, NextOf, next_among, NextChange};
+ghost use Rattle.inquiries.specs.Changes.{begin_of, BeginOf, begin_among, NextBegin, NextChange};
 ghost use Rattle.registry.specs.Numbered.{certificates_of};
 
 use certificates::Certificate;
 use registry::Registry;
 
-// The next day, behind `day`, on which a certificate can change whether a house may, `allowed` saying whether it may on `day`.
-#[tactic(auto, using(crate::proofs::Sooner::next_told))]
-fn next_of(certificate: &Certificate, day: u32, allowed: bool) -> Option<u32>
-    ensures value { result ≡ next_of allowed day certificate.now }
-    ensures change { NextOf allowed day result certificate.now }
+// The next day, after `day`, on which a certificate begins to be valid.
+#[tactic(auto, using(crate::proofs::Sooner::begin_told))]
+fn begin_of(certificate: &Certificate, day: u32) -> Option<u32>
+    ensures value { result ≡ begin_of day certificate.now }
+    ensures change { BeginOf day result certificate.now }
 {
-    if allowed {
-        if certificate.valid_on(day) {
-            return certificate.last.checked_add(1);
-        }
-        return None;
-    }
     if certificate.last < certificate.first {
         return None;
     }
@@ -27,21 +21,31 @@ fn next_of(certificate: &Certificate, day: u32, allowed: bool) -> Option<u32>
     None
 }
 
-// The soonest of the days, behind `day`, on which one of these certificates can change whether the house may.
-fn soonest(certificates: &[Certificate], day: u32, allowed: bool) -> Option<u32>
-    ensures { result ≡ next_among allowed day certificates.now }
+// The soonest of the days, after `day`, on which one of these certificates begins.
+fn soonest(certificates: &[Certificate], day: u32) -> Option<u32>
+    ensures { result ≡ begin_among day certificates.now }
 {
     certificates
         .iter()
-        .filter_map(|certificate| next_of(certificate, day, allowed))
+        .filter_map(|certificate| begin_of(certificate, day))
         .min()
 }
 
-// The next day, behind `day`, on which some certificate can change whether the house may; until then none can.
+// The next day, after `day`, on which some certificate begins; until then none does.
 // Apart from `soonest`: in one function with the chain the clause stays open.
-#[tactic(auto, using(crate::proofs::Sooner::next_change))]
-pub(crate) fn next_change(registry: &Registry, day: u32, allowed: bool) -> Option<u32>
-    ensures { NextChange allowed day result (certificates_of registry.now) }
+#[tactic(auto, using(crate::proofs::Sooner::next_begin))]
+fn next_begin(registry: &Registry, day: u32) -> Option<u32>
+    ensures { NextBegin day result (certificates_of registry.now) }
 {
-    soonest(registry.certificates(), day, allowed)
+    soonest(registry.certificates(), day)
+}
+
+// The next day on which it can change whether the house may: behind the last day to which it may from `day` on, or, where it may not, the next on which a certificate begins.
+pub(crate) fn next_change(registry: &Registry, day: u32, may_to: Option<u32>) -> Option<u32>
+    ensures { NextChange day may_to result (certificates_of registry.now) }
+{
+    if let Some(last) = may_to {
+        return last.checked_add(1);
+    }
+    next_begin(registry, day)
 }

@@ -1,4 +1,4 @@
-// The days on which a house may. Where it may, the answer changes only when a certificate ends, and else only when one begins; so finding is asked once for each stretch of days between.
+// The days on which a house may. Where it may, it does so as long as the sheet holds that was found; where it may not, until a certificate begins. So finding is asked once for each stretch of days.
 // The lent slices go side by side: of a struct that holds `&mut`, each contract would have to say that it holds the same reference still.
 ghost use Rattle.finding.specs.Growing.{bare_head};
 ghost use Rattle.gates.specs.Gates.{state_of};
@@ -7,14 +7,14 @@ ghost use Rattle.registry.specs.Numbered.{certificates_of};
 
 use crate::changes::next_change;
 use crate::spans::{Span, SpansSoFar};
-use finding::growing::{bare_head, may};
+use finding::growing::{bare_head, may_until};
 use finding::sheets_found::Unfound;
 use gates::Gate;
 use registry::Registry;
 use sheets::checking::Question;
 use std::alloc::Global;
 
-// Asks whether the house may on a day, and lets a span begin, last or end there. Gives what finding says.
+// Asks whether the house may on a day, and lets a span begin, last or end there. Gives the last day to which it may, if it does.
 fn ask_on(
     heap: Global,
     registry: &Registry,
@@ -23,13 +23,13 @@ fn ask_on(
     names: &mut [u64],
     name_lines: &mut [u32],
     spans: &mut SpansSoFar,
-) -> Result<bool, Unfound>
+) -> Result<Option<u32>, Unfound>
     ensures { AskedOn (certificates_of registry.now) question.now day names.old name_lines.old names.new name_lines.new spans.old spans.new result }
 {
     let asked = Question { day, ..*question };
-    let allowed = may(heap, registry, &asked, names, name_lines)?;
-    spans.go_on(day, allowed)?;
-    Ok(allowed)
+    let may_to = may_until(heap, registry, &asked, names, name_lines)?;
+    spans.go_on(day, may_to.is_some())?;
+    Ok(may_to)
 }
 
 // The spans of all days on which the house may.
@@ -47,8 +47,8 @@ fn spans_of(
     let mut next = Some(0);
     // each stretch lasts until the next day on which the answer can change, and there another begins
     while let Some(day) = next {
-        let allowed = ask_on(heap, registry, question, day, names, name_lines, &mut spans)?;
-        next = next_change(registry, day, allowed);
+        let may_to = ask_on(heap, registry, question, day, names, name_lines, &mut spans)?;
+        next = next_change(registry, day, may_to);
     }
     spans.end(u32::MAX)?;
     Ok(spans.done)

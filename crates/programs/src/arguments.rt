@@ -29,9 +29,9 @@ pub fn parse_house(text: &str) -> Option<u16>
 pub(crate) fn read_call(rt: &HostRuntime, name: &str, usage: &str) -> anyhow::Result<Option<Call>> {
     let mut arguments = env::args(rt)?;
     let _ = arguments.next();
-    let Some(first) = arguments.next() else {
-        return Err(anyhow!("usage: {name} {usage}"));
-    };
+    let first = arguments
+        .next()
+        .ok_or_else(|| anyhow!("usage: {name} {usage}"))?;
     match first.as_str() {
         "--help" => {
             println!(rt; "usage: {name} {usage}")?;
@@ -42,9 +42,9 @@ pub(crate) fn read_call(rt: &HostRuntime, name: &str, usage: &str) -> anyhow::Re
             Ok(None)
         }
         text => {
-            let Some(owner) = parse_house(text) else {
-                return Err(anyhow!("OWNER is a house, a number from 0 to {LAST_HOUSE}"));
-            };
+            let owner = parse_house(text).ok_or_else(|| anyhow!(
+                "OWNER is a house, a number from 0 to {LAST_HOUSE}"
+            ))?;
             let files = arguments.collect(rt.alloc())?;
             Ok(Some(Call { owner, files }))
         }

@@ -26,7 +26,7 @@ impl Part<'_> {
     }
 }
 
-// A way to tell them.
+// A way to tell the answers to refused events.
 pub(crate) trait Telling {
     // How many answers are held at once.
     fn answers_held(&self) -> usize

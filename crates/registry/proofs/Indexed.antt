@@ -1,16 +1,16 @@
 -- The index beside the certificates, when one comes or is taken back. Assumes nothing.
-use Rattle.std.proofs.Common.{◌≡◌, ℕ, ◌+◌, ◌<◌, Bool, true, false, cond, ◌&&◌, eqb, ltb, List, [], ◌∷◌, ◌++◌, length, take, drop, Result, Ok, Err, sym, refl, ap, ◌∙◌, arith}
+use Rattle.std.proofs.Common.{◌≡◌, ℕ, ◌+◌, ◌-◌, ◌<◌, Bool, true, false, cond, ◌&&◌, eqb, ltb, List, [], ◌∷◌, ◌++◌, length, Result, Ok, Err, sym, refl, ap, ◌∙◌, arith}
 use Rattle.certificates.specs.declared.Certificate.{Certificate}
 use Rattle.registry.proofs.Kept.{row_of_push, length_revoked, row_of_revoked}
 use Rattle.registry.proofs.Lookup.{missing, found, nowhere, row_in_more, row_in_inserted}
-use Rattle.registry.proofs.Order.{searchable, rising_inserted}
+use Rattle.registry.proofs.Order.{searchable, at_inserted, rising_inserted}
 use Rattle.registry.specs.Index.{compared, is_of, Place, row_in, Numbers, Indexes, HasRow, Missing}
 use Rattle.registry.specs.Names.{NewName, NoNewName}
 use Rattle.registry.specs.Numbered.{revoke_at}
 use Rattle.registry.specs.Rows.{says_name, states_name, row_of}
 use Rattle.registry.specs.declared.Entry.{Entry}
-use Rattle.std.proofs.ByRecursion.{All-append, All-drop, all_from_every, All-take, every_from_all}
 use Rattle.std.proofs.lemmas.List.{length_push}
+use Rattle.std.proofs.lemmas.List.Edits.{length-insert}
 use Rattle.std.proofs.lemmas.Bool.{and_parts, eqb-true}
 use Rattle.std.proofs.lemmas.Bool.Decides.{nat_tests}
 use Rattle.std.specs.List.{insert, HoldsAt}
@@ -64,11 +64,10 @@ module _ (es : List Entry) (cs : List Certificate) (so : Indexes es cs) where
               (new_row (is_of x house name) (row_of cs house name) (length cs) (λ is.
               let same = and_parts (eqb x.house house) (eqb x.name name) is in
               rw (← eqb-true x.house house same.0, ← eqb-true x.name name same.1) first));
-          numbers =
-              let Below : Entry → Type 0 = λ e. e.row < length (cs ++ (c ∷ [])) in
-              let all = all_from_every Below es numbers_more in
-              every_from_all Below (insert es place x)
-              (All-append Below (take place es) (x ∷ drop place es) (All-take Below place es all) (rw length_push (omega arith), All-drop Below place es all));
+          numbers = λ k d low less.
+              let long = length-insert es place x at.within in
+              at_inserted es place x at.within (λ e. e.row < length (cs ++ (c ∷ []))) k d (λ front. numbers_more k d (omega arith) (omega (arith, at.within)))
+              (λ same. rw length_push (omega arith)) (λ back. numbers_more (k - 1) d (omega arith) (omega (arith, long)));
         }
 
   -- one that is taken back still states its name

@@ -1,5 +1,5 @@
 -- Entries in order: each stands before all behind it, so the index can be halved. Assumes nothing.
-use Rattle.std.proofs.Common.{◌≡◌, ℕ, ◌+◌, ◌-◌, ◌<◌, true, false, List, get_or, ap, ◌∙◌, inl, inr, arith}
+use Rattle.std.proofs.Common.{◌≡◌, ℕ, ◌+◌, ◌-◌, ◌<◌, ◌≤◌, true, false, List, length, get_or, sym, ap, subst, ◌∙◌, inl, inr, arith}
 use Rattle.registry.specs.Index.{compared, is_of, Rising, Place}
 use Rattle.registry.specs.declared.Entry.{Entry}
 use Rattle.std.proofs.lemmas.List.Edits.{length-insert, get_or-insert_below, get_or-insert_at, get_or-insert_above}
@@ -37,6 +37,17 @@ module _ (e : Entry) (house name : ℕ) where
 -- which of two stands before the other, asked from either
 turned : (e f : Entry) (o : Ordering) → compared f.house f.name e ≡ o → compared e.house e.name f ≡ ordering_reverse o
 turned e f o stands = key_order.antisymm (key f) (key e) ∙ ap ordering_reverse stands
+
+module _ (es : List Entry) (place : ℕ) (x : Entry) (within : place ≤ length es) where
+  -- what holds of each entry, with one that comes: those behind it stand one place later
+  pub at_inserted : (P : Entry → Type 0) (j : ℕ) (d : Entry) → (j < place → P (get_or es j d)) → (j ≡ place → P x) → (place < j → P (get_or es (j - 1) d)) → P (get_or (insert es place x) j d)
+  at_inserted P j d front here back = elim (cases_order j place) [
+    | inl same ↦ subst P (sym (rw same (get_or-insert_at es place x d within))) (here same)
+    | inr (inl below) ↦ subst P (sym (get_or-insert_below es place x d j below within)) (front below)
+    | inr (inr above) ↦
+        let next : j - 1 + 1 ≡ j = omega arith in
+        subst P (sym (rw next at (get_or-insert_above es place x d (j - 1) (omega arith) within))) (back above)
+  ]
 
 module _ (es : List Entry) (up : Rising es) where
   -- so the index may be halved

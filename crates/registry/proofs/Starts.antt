@@ -1,13 +1,14 @@
 -- Where the entries of each house start, and what is found among them. Assumes nothing.
-use Rattle.std.proofs.Common.{◌≡◌, ℕ, ◌+◌, ◌-◌, ◌<◌, ◌≤◌, Bool, true, false, cond, ltb, List, [], length, get_or, take, drop, replicate, Ok, Err, sym, refl, ◌∙◌, subst, inl, inr, arith}
+use Rattle.std.proofs.Common.{◌≡◌, ℕ, ◌+◌, ◌-◌, ◌<◌, ◌≤◌, Bool, true, false, cond, ltb, List, [], length, get_or, take, drop, replicate, Ok, Err, sym, refl, ◌∙◌, inl, inr, arith}
 use Rattle.certificates.specs.declared.Certificate.{Certificate}
 use Rattle.registry.proofs.Indexed.{searched}
+use Rattle.registry.proofs.Order.{at_inserted}
 use Rattle.registry.specs.Index.{compared, Place, HouseStart, Starts, start_behind, OfHouses, Indexes, HasRow, Missing}
 use Rattle.registry.specs.declared.Entry.{Entry}
-use Rattle.std.proofs.lemmas.Bool.{cases_eq, cases_lt, cases_order, ltb-true, ltb-false}
+use Rattle.std.proofs.lemmas.Bool.{cases_eq, cases_lt, ltb-true, ltb-false}
 use Rattle.std.proofs.lemmas.Bool.Decides.{nat_tests}
 use Rattle.std.proofs.lemmas.List.{get_or-take, get_or-drop, get_or-replicate, length-take, length-drop}
-use Rattle.std.proofs.lemmas.List.Edits.{length-insert, get_or-insert_below, get_or-insert_at, get_or-insert_above}
+use Rattle.std.proofs.lemmas.List.Edits.{length-insert}
 use Rattle.std.specs.List.{insert, HoldsAt}
 use Rattle.std.specs.List.Sorted.{IsNonDecreasingBy, IsPartitionPoint}
 use Rattle.std.specs.Ordering.{nat_cmp, ordering_index}
@@ -57,22 +58,12 @@ starts_in_order es house start end from to = elim (cases_lt end start) [
 ]
 
 module _ (es : List Entry) (place : ℕ) (x : Entry) (at : Place es x.house x.name place) where
-  -- what holds of the entries behind one that comes, one place later
-  at_inserted : (P : Entry → Type 0) (j : ℕ) (d : Entry) → (j < place → P (get_or es j d)) → (j ≡ place → P x) → (place < j → P (get_or es (j - 1) d)) → P (get_or (insert es place x) j d)
-  at_inserted P j d front here back = elim (cases_order j place) [
-    | inl same ↦ subst P (sym (rw same (get_or-insert_at es place x d at.within))) (here same)
-    | inr (inl below) ↦ subst P (sym (get_or-insert_below es place x d j below at.within)) (front below)
-    | inr (inr above) ↦
-        let next : j - 1 + 1 ≡ j = omega arith in
-        subst P (sym (rw next at (get_or-insert_above es place x d (j - 1) (omega arith) at.within))) (back above)
-  ]
-
   long : length (insert es place x) ≡ length es + 1
   long = length-insert es place x at.within
 
   pub of_houses : x.house < 1024 → OfHouses es → OfHouses (insert es place x)
   of_houses small all j d low less =
-      at_inserted (λ e. e.house < 1024) j d (λ front. all j d (omega arith) (omega (arith, at.within))) (λ same. small) (λ back. all (j - 1) d (omega arith) (omega (arith, long)))
+      at_inserted es place x at.within (λ e. e.house < 1024) j d (λ front. all j d (omega arith) (omega (arith, at.within))) (λ same. small) (λ back. all (j - 1) d (omega arith) (omega (arith, long)))
 
   module _ (house start : ℕ) (was : HouseStart es house start) where
     -- the new entry of a house below stands before its start
@@ -105,9 +96,9 @@ module _ (es : List Entry) (place : ℕ) (x : Entry) (at : Place es x.house x.na
               omega (arith, long, was.0),
               (
                 (λ j d low less.
-                    at_inserted (λ e. e.house < house) j d (λ front. was.1.0 j d (omega arith) (omega (arith, far))) (λ same. below) (λ back. was.1.0 (j - 1) d (omega arith) (omega arith))),
+                    at_inserted es place x at.within (λ e. e.house < house) j d (λ front. was.1.0 j d (omega arith) (omega (arith, far))) (λ same. below) (λ back. was.1.0 (j - 1) d (omega arith) (omega arith))),
                 (λ j d low less.
-                    at_inserted (λ e. house ≤ e.house) j d (λ front. let never : ⊥ = omega (arith, far) in absurd never) (λ same. let never : ⊥ = omega (arith, far) in absurd never) (λ back. was.1.1 (j - 1) d (omega arith) (omega (arith, long)))),
+                    at_inserted es place x at.within (λ e. house ≤ e.house) j d (λ front. let never : ⊥ = omega (arith, far) in absurd never) (λ same. let never : ⊥ = omega (arith, far) in absurd never) (λ back. was.1.1 (j - 1) d (omega arith) (omega (arith, long)))),
               ),
             )
         go false is =
@@ -116,9 +107,9 @@ module _ (es : List Entry) (place : ℕ) (x : Entry) (at : Place es x.house x.na
               omega (arith, long, was.0),
               (
                 (λ j d low less.
-                    at_inserted (λ e. e.house < house) j d (λ front. was.1.0 j d (omega arith) less) (λ same. let never : ⊥ = omega (arith, near) in absurd never) (λ back. let never : ⊥ = omega (arith, near) in absurd never)),
+                    at_inserted es place x at.within (λ e. e.house < house) j d (λ front. was.1.0 j d (omega arith) less) (λ same. let never : ⊥ = omega (arith, near) in absurd never) (λ back. let never : ⊥ = omega (arith, near) in absurd never)),
                 (λ j d low less.
-                    at_inserted (λ e. house ≤ e.house) j d (λ front. was.1.1 j d (omega arith) (omega (arith, at.within))) (λ same. above) (λ back. was.1.1 (j - 1) d (omega (arith, near)) (omega (arith, long)))),
+                    at_inserted es place x at.within (λ e. house ≤ e.house) j d (λ front. was.1.1 j d (omega arith) (omega (arith, at.within))) (λ same. above) (λ back. was.1.1 (j - 1) d (omega (arith, near)) (omega (arith, long)))),
               ),
             )
 

@@ -9,7 +9,7 @@ use crate::{Entry, Registry};
 use certificates::{Certificate, Statement};
 
 impl Registry {
-    // The name that a certificate states and the place of its entry, if none stated it before.
+    // The name that a certificate states and the place for its entry, if none stated it before.
     pub(crate) fn new_name(&self, certificate: &Certificate) -> Option<(usize, u16)>
         ensures { MatchOption result (NoNewName (certificates_of self.now) certificate.now) (λ x. Place self.now.index.entries.items certificate.now.issuer x.1 x.0 × NewName (certificates_of self.now) certificate.now x.1) }
     {

@@ -75,6 +75,7 @@ impl Registry {
 }
 
 // The certificate at a place of the list is taken back; the list keeps its length and its room.
+// Apart from `revoke`, whose proof of what a registry keeps is by hand: a wrong write is then refused in its own line.
 #[tactic(auto, using(crate::proofs::Kept::revoke_past, crate::proofs::Kept::revoke_in_place))]
 fn revoke_in(certificates: &mut Vec<Certificate>, number: u16) -> Result<(), Fault>
     ensures value { result ≡ revoked certificates.old.items number }
@@ -82,9 +83,9 @@ fn revoke_in(certificates: &mut Vec<Certificate>, number: u16) -> Result<(), Fau
     ensures len { vec_len certificates.new ≡ vec_len certificates.old }
     ensures room { vec_capacity certificates.new ≡ vec_capacity certificates.old }
 {
-    let Some(certificate) = certificates.get_mut(usize::from(number)) else {
-        return Err(Fault::UnknownCertificate);
-    };
+    let certificate = certificates
+        .get_mut(usize::from(number))
+        .ok_or(Fault::UnknownCertificate)?;
     *certificate = certificate.revoked();
     Ok(())
 }

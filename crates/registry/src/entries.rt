@@ -4,17 +4,16 @@ ghost use Rattle.registry.specs.Index.{Place, HouseStart, start_behind};
 ghost use Rattle.std.specs.List.{insert};
 
 use crate::{Entry, Index, MOST_CERTIFICATES};
+use certificates::HOUSES;
 use std::alloc::{AllocError, Global};
 
-// How many houses there are.
-const HOUSES: usize = 1024;
-
-// A house got an entry: those of higher houses start one place later.
+// When a house gets an entry, those of higher houses start one place later.
 fn start_behind(starts: &mut Vec<u16>, house: u16)
     requires { (h : ℕ) → slice_index starts.old.items h ≤ 1024 }
     ensures whole { vec_len starts.new ≡ vec_len starts.old }
     ensures starts { (h : ℕ) → h < vec_len starts.old → slice_index starts.new.items h ≡ start_behind house h (slice_index starts.old.items h) }
 {
+    // All are walked: behind `skip` a proof knows nothing of what is in the list.
     for (other, start) in starts.iter_mut().enumerate() {
         if other > usize::from(house) {
             *start += 1;

@@ -22,6 +22,7 @@ impl Registry {
         let start = self.index.start_of(usize::from(house));
         let end = self.index.start_of(usize::from(house) + 1);
         let names = &self.index.entries[start..end];
+        // Case by case: with `map` and `map_err` the clause stays open.
         match names.binary_search_by_key(&name, |entry| entry.name) {
             Ok(place) => Ok(start + place),
             Err(place) => Err(start + place),

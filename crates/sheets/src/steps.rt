@@ -57,6 +57,7 @@ impl Shown<'_> {
     {
         let mut at = line.certificate.subject.house;
         for (step, (name, house)) in line.names().iter().zip(line.houses()).enumerate() {
+            // Not by `ok_or` and `?`: the proof would have to go through the conversion of the error.
             let Some(reached) = self.step(at, *name, *house) else {
                 return Err(step as u8);
             };

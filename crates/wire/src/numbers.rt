@@ -1,4 +1,4 @@
-// Numbers as bytes, high byte first.
+// Numbers as bytes, high byte first. A reader's answer is taken apart by `let .. else`, a rule of the project.
 ghost use Rattle.std.specs.Prelude.{◌≡◌, ℕ, ◌≤◌, length, take};
 ghost use Rattle.std.proofs.Common.{arith};
 ghost use Rattle.std.specs.Int.Digits.{number_from_digits};

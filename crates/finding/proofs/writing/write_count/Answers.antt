@@ -1,4 +1,4 @@
-use Rattle.std.proofs.Common.{List, ◌++◌, take, ap₂, ◌∙◌, arith}
+use Rattle.std.proofs.Common.{◌++◌, take, ap₂, ◌∙◌, arith}
 use Rattle.finding.proofs.writing.write_count.Goals as goal
 use Rattle.wire.proofs.BigEndian.{bytes_of_4}
 use borrow.Rule.Slice.PartMut.{Post-is}

@@ -1,6 +1,0 @@
-use Rattle.inquiries.proofs.Sooner.{next_change}
-use Rattle.inquiries.proofs.changes.next_change.Goals as goal
-use Rattle.registry.specs.Numbered.{certificates_of}
-
-pub returns : goal.returns
-returns c = rw (c.soonest.ensures, c.certificates.ensures.value) (next_change c.args.allowed c.args.day (certificates_of c.args.registry.now) c.ranges.day.fits)
