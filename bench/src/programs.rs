@@ -68,13 +68,19 @@ pub fn find(
 }
 
 /// `until OWNER FILE...`: prints the spans of days on which the house of the last file may.
-pub fn until(arguments: &[OsString], out: &mut dyn Write, err: &mut dyn Write) -> u8 {
+pub fn until(
+    schedule: Schedule,
+    arguments: &[OsString],
+    out: &mut dyn Write,
+    err: &mut dyn Write,
+) -> u8 {
     let run = |out: &mut dyn Write, err: &mut dyn Write| {
         let (gate, head) = asked(arguments, err)?;
         match head {
             Err(cause) => return refused(cause, out),
             Ok(Head { house, right, .. }) => {
-                for span in spans(&gate.registry, Asked { owner: gate.owner, house, right }) {
+                let asked = Asked { owner: gate.owner, house, right };
+                for span in spans(schedule, &gate.registry, asked) {
                     writeln!(out, "{span}")?;
                 }
             }

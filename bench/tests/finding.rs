@@ -7,7 +7,8 @@ use plain::certificate::{Certificate, Statement, Subject};
 
 const FINDERS: [&str; 2] =
     [env!("CARGO_BIN_EXE_plain-find"), env!("CARGO_BIN_EXE_plain-find-fast")];
-const UNTIL: &str = env!("CARGO_BIN_EXE_plain-until");
+const UNTIL: [&str; 2] =
+    [env!("CARGO_BIN_EXE_plain-until"), env!("CARGO_BIN_EXE_plain-until-fast")];
 const GATE: &str = env!("CARGO_BIN_EXE_plain-gate");
 
 fn certificate(issuer: u16, days: (u32, u32), subject: Subject, statement: Statement) -> Vec<u8> {
@@ -36,11 +37,12 @@ fn found(test: &str, deliveries: &[Vec<u8>], ask: &[u8]) -> (Vec<u8>, i32) {
     plain
 }
 
-/// The spans for deliveries and a request, asked at the gate of house 1.
+/// The spans that both programs print, asked at the gate of house 1.
 fn spans(test: &str, deliveries: &[Vec<u8>], ask: &[u8]) -> (String, i32) {
     let arguments =
         [vec!["1".to_string()], files(test, &[deliveries, &[ask.to_vec()]].concat())].concat();
-    let (out, status) = run(UNTIL, &arguments);
+    let [(out, status), fast] = UNTIL.map(|program| run(program, &arguments));
+    assert_eq!((&out, status), (&fast.0, fast.1));
     (String::from_utf8(out).expect("spans are text"), status)
 }
 
@@ -127,6 +129,31 @@ fn joins_spans_that_touch() {
     assert_eq!(spans("spans-back", &[taken_back], &ask(2)), (expected, 0));
     assert_eq!(spans("no-spans", &[], &ask(2)), (String::new(), 0));
     assert_eq!(spans("all-spans", &[], &ask(1)), ("0 on\n".to_string(), 0));
+}
+
+#[test]
+fn a_beginning_without_effect_divides_no_span() {
+    let other = |days| {
+        let statement = Statement::Rights { set: 4, passing: true };
+        certificate(1, days, Subject::new(2, &[]), statement)
+    };
+    let given = |days| {
+        let statement = Statement::Rights { set: 8, passing: true };
+        certificate(1, days, Subject::new(2, &[]), statement)
+    };
+    let events = [other((3, 30)), given((5, 20)), other((7, 9)), given((15, 40)), other((50, 60))];
+    let expected = "5 40\n".to_string();
+    assert_eq!(spans("no-effect", &[events.concat()], &ask(2)), (expected, 0));
+}
+
+#[test]
+fn both_schedules_give_the_same_spans() {
+    for input in plain::inputs::all(1) {
+        let paths = files(&format!("{}-spans", input.name), &[input.events.clone(), input.ask()]);
+        let arguments = [vec![input.owner.to_string()], paths].concat();
+        let [plain, fast] = UNTIL.map(|program| run(program, &arguments));
+        assert!(!plain.0.is_empty() && plain == fast, "{}", input.name);
+    }
 }
 
 #[test]

@@ -8,6 +8,7 @@ use plain::check::{answer, Table};
 use plain::delivery::{receive, Told};
 use plain::event;
 use plain::gate::Gate;
+use plain::schedule::Schedule;
 use plain::trial::case::Case;
 use plain::trial::checks::{check, Counts};
 
@@ -83,8 +84,11 @@ fn binaries_write_what_their_functions_write() {
         let arguments = [vec![case.owner.to_string()], deliveries].concat();
         let words: Vec<_> = arguments.iter().map(std::ffi::OsString::from).collect();
         let (mut out, mut err) = (Vec::new(), Vec::new());
-        let status = plain::programs::until(&words, &mut out, &mut err);
-        assert_eq!(run(env!("CARGO_BIN_EXE_plain-until"), &arguments), (out, i32::from(status)));
+        let status = plain::programs::until(Schedule::Plain, &words, &mut out, &mut err);
+        let written = (out, i32::from(status));
+        for until in [env!("CARGO_BIN_EXE_plain-until"), env!("CARGO_BIN_EXE_plain-until-fast")] {
+            assert_eq!(run(until, &arguments), written);
+        }
         let mut out = Vec::new();
         let status = plain::programs::gate(&words, &mut out, &mut err);
         assert_eq!(run(env!("CARGO_BIN_EXE_plain-gate"), &arguments), (out, i32::from(status)));

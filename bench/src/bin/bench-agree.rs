@@ -2,6 +2,7 @@
 //! on N random cases, and stops at the first difference, whose files it leaves in a folder.
 
 use plain::measure::process::{outcome, Outcome};
+use plain::measure::sides::{Pair, PAIRS};
 use plain::programs;
 use plain::schedule::Schedule;
 use plain::trial::case::Case;
@@ -20,7 +21,7 @@ struct Driver {
 
 /// A run on which the two sides differ.
 struct Difference {
-    program: String,
+    pair: Pair,
     arguments: Vec<OsString>,
     proved: Outcome,
     plain: Outcome,
@@ -42,6 +43,9 @@ fn run(arguments: Vec<String>) -> io::Result<ExitCode> {
     };
     let number = |text: &str| text.parse::<u64>().map_err(io::Error::other);
     let (count, start) = (number(count)?, number(seed)?);
+    if !programs.iter().all(|program| PAIRS.iter().any(|pair| pair.proved() == program)) {
+        return Err(io::Error::other("a program is gate, find or until"));
+    }
     let mut driver = Driver {
         proved: PathBuf::from(proved),
         folder: Path::new(folder).join("case"),
@@ -53,14 +57,14 @@ fn run(arguments: Vec<String>) -> io::Result<ExitCode> {
             let left = Path::new(folder).join(format!("difference-{seed}"));
             driver.leave(&difference, &left)?;
             println!(
-                "case {seed}: {} differs; its files are in {}",
-                difference.program,
+                "case {seed}: {} differ; the files are in {}",
+                difference.pair,
                 left.display()
             );
             return Ok(ExitCode::FAILURE);
         }
     }
-    println!("{count} cases, {} runs of each side: no difference", driver.runs);
+    println!("{count} cases, {} runs of proved programs: no difference", driver.runs);
     Ok(ExitCode::SUCCESS)
 }
 
@@ -98,6 +102,7 @@ impl Driver {
         Ok(path.into())
     }
 
+    /// Runs a proved program, and all unproved ones that are compared with it.
     fn compare(
         &mut self,
         program: &str,
@@ -105,10 +110,13 @@ impl Driver {
     ) -> io::Result<Option<Difference>> {
         self.runs += 1;
         let proved = outcome(&self.proved.join(program), &arguments)?;
-        let plain = plain(program, &arguments)?;
-        let same = proved == plain;
-        let program = program.to_string();
-        Ok((!same).then_some(Difference { program, arguments, proved, plain }))
+        for pair in PAIRS.into_iter().filter(|pair| pair.proved() == program) {
+            let plain = plain(pair, &arguments);
+            if proved != plain {
+                return Ok(Some(Difference { pair, arguments, proved, plain }));
+            }
+        }
+        Ok(None)
     }
 
     /// Leaves the files, the command, and what each side answered.
@@ -117,7 +125,7 @@ impl Driver {
             fs::remove_dir_all(folder)?;
         }
         fs::rename(&self.folder, folder)?;
-        let program = self.proved.join(&difference.program);
+        let program = self.proved.join(difference.pair.proved());
         let name =
             |argument: &OsString| Path::new(argument).file_name().unwrap_or_default().to_owned();
         let words: Vec<OsString> = difference.arguments.iter().map(name).collect();
@@ -131,14 +139,15 @@ impl Driver {
 }
 
 /// The unproved program's function, which its binary calls; a process less to each run.
-fn plain(program: &str, arguments: &[OsString]) -> io::Result<Outcome> {
+fn plain(pair: Pair, arguments: &[OsString]) -> Outcome {
     let mut out = Vec::new();
     let err = &mut io::sink();
-    let status = match program {
-        "gate" => programs::gate(arguments, &mut out, err),
-        "find" => programs::find(Schedule::Plain, arguments, &mut out, err),
-        "until" => programs::until(arguments, &mut out, err),
-        _ => return Err(io::Error::other("a program is gate, find or until")),
+    let status = match pair {
+        Pair::Gate => programs::gate(arguments, &mut out, err),
+        Pair::Find => programs::find(Schedule::Plain, arguments, &mut out, err),
+        Pair::FindFast => programs::find(Schedule::Fast, arguments, &mut out, err),
+        Pair::Until => programs::until(Schedule::Plain, arguments, &mut out, err),
+        Pair::UntilFast => programs::until(Schedule::Fast, arguments, &mut out, err),
     };
-    Ok(Outcome { out, status: Some(i32::from(status)) })
+    Outcome { out, status: Some(i32::from(status)) }
 }

@@ -139,7 +139,7 @@ fn series(points: &[&Point], across: &str) -> Vec<Series> {
             let proved: Vec<(f64, f64)> =
                 these.clone().filter_map(|point| Some((x(point), point.proved?))).collect();
             let plain: Vec<(f64, f64)> = these.map(|point| (x(point), point.plain)).collect();
-            let fast = pair == Pair::FindFast;
+            let fast = pair.is_fast();
             if !proved.is_empty() && !fast {
                 all.push(Series { colour, stroke: Stroke::Solid, points: proved });
             }

@@ -35,7 +35,7 @@ struct Bench {
     sides: Sides,
     counting: bool,
     table: Table,
-    /// What the last row's proved program took; the finder stands in two rows.
+    /// What the last row's proved program took; `find` and `until` stand in two rows.
     proved: Option<(String, Measured)>,
 }
 

@@ -123,7 +123,7 @@ pub fn seasons(random: &mut Random) -> Input {
     let mut gate = Gate::new(input.owner);
     receive(&mut gate, &input.events[..], |_| Ok(())).expect("reading from memory does not fail");
     let asked = Asked { owner: input.owner, house: input.house, right: input.right };
-    let days = spans(&gate.registry, asked).first().map_or(0, |span| span.first);
+    let days = spans(Schedule::Fast, &gate.registry, asked).first().map_or(0, |span| span.first);
     input.events.extend(vec![3; days as usize]);
     input
 }

@@ -4,23 +4,24 @@ use std::fmt;
 use std::io;
 use std::path::{Path, PathBuf};
 
-/// The proved programs, each with the unproved one that is compared with it.
+/// The proved programs, each with an unproved one that is compared with it.
 #[derive(Clone, Copy, PartialEq, Eq, Debug)]
 pub enum Pair {
     Gate,
     Find,
     FindFast,
     Until,
+    UntilFast,
 }
 
-pub const PAIRS: [Pair; 4] = [Pair::Gate, Pair::Find, Pair::FindFast, Pair::Until];
+pub const PAIRS: [Pair; 5] = [Pair::Gate, Pair::Find, Pair::FindFast, Pair::Until, Pair::UntilFast];
 
 impl Pair {
     pub fn proved(self) -> &'static str {
         match self {
             Pair::Gate => "gate",
             Pair::Find | Pair::FindFast => "find",
-            Pair::Until => "until",
+            Pair::Until | Pair::UntilFast => "until",
         }
     }
 
@@ -30,7 +31,13 @@ impl Pair {
             Pair::Find => "plain-find",
             Pair::FindFast => "plain-find-fast",
             Pair::Until => "plain-until",
+            Pair::UntilFast => "plain-until-fast",
         }
+    }
+
+    /// Whether the unproved program has another schedule than the proved one.
+    pub fn is_fast(self) -> bool {
+        matches!(self, Pair::FindFast | Pair::UntilFast)
     }
 }
 

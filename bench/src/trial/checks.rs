@@ -127,9 +127,14 @@ impl Questions<'_> {
             .map_err(|fault| format!("a sheet that was found is answered {fault}: {asked:?}"))
     }
 
-    /// The spans have exactly the days on which the house may, looked at around every change.
+    /// Both schedules give the same spans, which have exactly the days on which the house may,
+    /// looked at around every change.
     fn spans_agree(&mut self, asked: Asked) -> Checked {
-        let spans = spans(&self.gate.registry, asked);
+        let [spans, fast] = [Schedule::Plain, Schedule::Fast]
+            .map(|schedule| spans(schedule, &self.gate.registry, asked));
+        if spans != fast {
+            return Err(format!("the spans of the two finders differ: {spans:?}, {fast:?}"));
+        }
         let changes = changes(self.gate.registry.certificates());
         let around =
             changes.iter().flat_map(|&day| [day.saturating_sub(1), day, day.saturating_add(1)]);

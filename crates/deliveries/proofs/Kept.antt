@@ -1,7 +1,8 @@
 -- What is promised of a delivery that a gate took, and why one was not taken. Assumes nothing.
 use Rattle.std.proofs.Common.{◌≡◌, ℕ, ◌<◌, true, List, length, arith}
 use Rattle.gates.specs.declared.Gate.{Gate}
-use Rattle.deliveries.specs.Lists.{is_request, Untaken}
+use Rattle.deliveries.specs.Lists.{Untaken}
+use Rattle.promise.specs.Promise.{is_request}
 use Rattle.gates.specs.Gates.{state_of, Unanswered}
 use Rattle.gates.specs.declared.troubles.Trouble.{Trouble}
 use Rattle.gates.specs.declared.troubles.Trouble.TheVariants.{UnknownHouse, NoMemory, ShortMemory}

@@ -1,7 +1,8 @@
 -- Deliveries that come together, taken one after the other. Assumes nothing.
-use Rattle.std.specs.Prelude.{◌≡◌, ℕ, ◌<◌, Bool, true, false, List, [], ◌∷◌, ◌++◌, map, length, vec_items, Vec, ◌==◌}
+use Rattle.std.specs.Prelude.{◌≡◌, ℕ, ◌<◌, true, List, ◌∷◌, ◌++◌, map, length, vec_items, Vec}
 use Rattle.gates.specs.declared.troubles.Trouble.{Trouble}
 use Rattle.gates.specs.declared.troubles.Trouble.TheVariants.{UnknownHouse, NoMemory, ShortMemory}
+use Rattle.promise.specs.Promise.{is_request}
 use Rattle.promise.specs.Requests.{left_by_all}
 use Rattle.promise.specs.States.{State}
 use Rattle.std.specs.declared.alloc.Global.{Global}
@@ -9,11 +10,6 @@ use Rattle.std.specs.declared.alloc.Global.{Global}
 -- the bytes of each
 abbrev pub bytes_of : List (Vec ℕ Global) → List (List ℕ)
 bytes_of deliveries = map vec_items deliveries
-
--- a delivery that is a request
-abbrev pub is_request : List ℕ → Bool
-is_request [] = false
-is_request (b ∷ s) = b == 4
 
 -- Why a delivery was not taken: it is not empty and memory can't be had, or it is a request and the lent memory has too few words.
 abbrev pub Untaken : Trouble → List ℕ → ℕ → Type 0

@@ -1,7 +1,7 @@
 -- A delivery of events that is taken in pieces. Assumes nothing.
 use Rattle.std.specs.Prelude.{◌≡◌, ℕ, ◌<◌, ◌≤◌, Bool, true, false, not, ◌&&◌, ◌||◌, ◌⊎◌, List, [], ◌∷◌, ◌++◌, length, Some, None, Option, ◌==◌, nat_le}
 use Rattle.promise.specs.States.{State, deliver}
-use Rattle.promise.specs.Promise.{Bytes}
+use Rattle.promise.specs.Promise.{Bytes, is_request}
 use Rattle.promise.specs.Requests.{told, run}
 use Rattle.promise.specs.declared.answers.Answer.{Answer}
 use Rattle.wire.specs.Enough.{stops}
@@ -47,8 +47,7 @@ StandsLast piece (Some rest) = (front : List ℕ) × (piece ≡ front ++ rest)
 
 -- a delivery that is no request
 abbrev pub holds_events : List ℕ → Bool
-holds_events [] = true
-holds_events (b ∷ s) = not (b == 4)
+holds_events d = not (is_request d)
 
 -- Behind the deliveries ds the gate g is on its way through one more, of which `front` came and `left` is not taken:
 -- whatever follows (nothing, behind the last piece), going on with what is left gives the gate after the whole delivery.

@@ -1,7 +1,7 @@
 // Files of the programs, read in pieces.
-ghost use Rattle.pieces.specs.Pieces.{holds_events};
+ghost use Rattle.promise.specs.Promise.{is_request};
 ghost use Rattle.programs.specs.Files.{ReadOn, ReadPast, last_bytes};
-ghost use Rattle.std.specs.Prelude.{◌≡◌, ◌+◌, ◌-◌, ◌^◌, [], not, IfOk, min, length};
+ghost use Rattle.std.specs.Prelude.{◌≡◌, ◌+◌, ◌-◌, ◌^◌, [], IfOk, min, length};
 
 use anyhow::anyhow;
 use promise::heads::REQUEST;
@@ -74,7 +74,7 @@ impl<'a> Delivery<'a> {
 
     // Whether it is a request: its first byte says so.
     pub(crate) fn is_request(&self) -> bool
-        ensures { result ≡ not (holds_events self.now.bytes.items) }
+        ensures { result ≡ is_request self.now.bytes.items }
     {
         matches!(self.bytes.as_slice(), [REQUEST, ..])
     }

@@ -1,5 +1,5 @@
 -- The promise of the whole: who is let in, after any deliveries. Assumes nothing.
-use Rattle.std.specs.Prelude.{◌≡◌, ℕ, ◌*◌, ◌<◌, ◌≤◌, List, [], ◌∷◌, ◌++◌, length, Some}
+use Rattle.std.specs.Prelude.{◌≡◌, ℕ, ◌*◌, ◌<◌, ◌≤◌, Bool, false, List, [], ◌∷◌, ◌++◌, length, Some, ◌==◌}
 use Rattle.certificates.specs.Laws.{Grows, FromOwner}
 use Rattle.certificates.specs.Meaning.{May}
 use Rattle.promise.specs.States.{State}
@@ -16,6 +16,11 @@ use mathlib.Core.List.{Memᴰ}
 -- a delivery is a list of bytes
 abbrev pub Bytes : List ℕ → Type 0
 Bytes d = AllByRecursion (λ b. b < 256) d
+
+-- a delivery that is a request; any other holds events
+abbrev pub is_request : List ℕ → Bool
+is_request [] = false
+is_request (b ∷ s) = b == 4
 
 -- the bytes of a request with its sheet
 abbrev pub request_bytes : ℕ → ℕ → List Line → List ℕ

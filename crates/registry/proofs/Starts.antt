@@ -42,9 +42,9 @@ index_rises : (m n name : ℕ) → m < n → ordering_index (nat_cmp m name) ≤
 index_rises m n name less = grind (arith, nat_tests)
 
 -- without entries each house starts at 0
-pub no_starts : (starts : List ℕ) (es : List Entry) → starts ≡ replicate 1024 0 → es ≡ [] → Starts starts es
+pub no_starts : (starts : List ℕ) (es : List Entry) → starts ≡ replicate 1025 0 → es ≡ [] → Starts starts es
 no_starts starts es zeros none house small =
-    rw (none, zeros, get_or-replicate {A = ℕ} 1024 house 0 0 small)
+    rw (none, zeros, get_or-replicate {A = ℕ} 1025 house 0 0 (omega arith))
     (omega arith, ((λ k d low less. let never : ⊥ = omega arith in absurd never), (λ k d low less. let never : ⊥ = omega arith in absurd never)))
 
 -- a house's entries end where those of the next start

@@ -9,7 +9,7 @@ use std::alloc::{AllocError, Global};
 
 // When a house gets an entry, those of higher houses start one place later.
 fn start_behind(starts: &mut Vec<u16>, house: u16)
-    requires whole { vec_len starts.old ≡ 1024 }
+    requires whole { vec_len starts.old ≡ 1025 }
     requires small { (h : ℕ) → slice_index starts.old.items h ≤ 1024 }
     ensures whole { vec_len starts.new ≡ vec_len starts.old }
     ensures starts { (h : ℕ) → h < vec_len starts.old → slice_index starts.new.items h ≡ start_behind house h (slice_index starts.old.items h) }
@@ -21,6 +21,19 @@ fn start_behind(starts: &mut Vec<u16>, house: u16)
     }
 }
 
+// An entry comes, at its place, into a list that has room for it.
+// Pushed, and then rotated to its place: this compiles to one `memmove`, but `insert` to a loop over those behind it.
+fn insert_at(entries: &mut Vec<Entry>, place: usize, entry: Entry)
+    requires place { place ≤ vec_len entries.old }
+    requires room { vec_len entries.old < vec_capacity entries.old }
+    ensures items { entries.new.items ≡ insert entries.old.items place entry }
+    ensures len { vec_len entries.new ≡ vec_len entries.old + 1 }
+    ensures capacity { vec_capacity entries.new ≡ vec_capacity entries.old }
+{
+    entries.push_reserved(entry);
+    entries[place..].rotate_right(1);
+}
+
 impl Index {
     // No entries yet, and room for as many as certificates.
     #[tactic(auto, using(crate::proofs::Starts::no_starts))]
@@ -28,18 +41,19 @@ impl Index {
         ensures { IfOk result (λ index. index.entries.items ≡ []) }
     {
         let entries = Vec::with_capacity(heap, MOST_CERTIFICATES)?;
-        let starts = vec![in heap; 0u16; HOUSES]?;
+        let starts = vec![in heap; 0u16; HOUSES + 1]?;
         Ok(Index { entries, starts })
     }
 
-    // How many entries are of houses below this one: the place where its own start.
-    pub(crate) fn start_of(&self, house: usize) -> usize
-        ensures { HouseStart self.now.entries.items house result }
+    // Where the entries of a house start, and where those of the next do; behind all entries for a house that there is not.
+    pub(crate) fn entries_of(&self, house: u16) -> (usize, usize)
+        ensures { HouseStart self.now.entries.items house result.0 × HouseStart self.now.entries.items (house + 1) result.1 }
     {
-        match self.starts.get(house) {
-            Some(start) => usize::from(*start),
-            // behind the last house: all entries are of houses below
-            None => self.entries.len(),
+        let house = usize::from(house);
+        // both at once, so that the place is tested once
+        match self.starts.get(house..house + 2) {
+            Some([start, end]) => (usize::from(*start), usize::from(*end)),
+            _ => (self.entries.len(), self.entries.len()),
         }
     }
 
@@ -52,6 +66,6 @@ impl Index {
     {
         start_behind(&mut self.starts, entry.house);
         // room for as many names as certificates is reserved
-        self.entries.insert(place, entry).unwrap();
+        insert_at(&mut self.entries, place, entry);
     }
 }

@@ -29,12 +29,12 @@ pub(crate) struct Index {
     // Rising by house and name, no two alike. A sorted list and no map: a certificate that comes is entered without
     // allocating, in room that was reserved at the start.
     entries: Vec<Entry>,
-    // By house: how many entries are of lower houses. A list and no array, since a gate, which holds it, goes by value.
+    // By house, and once more behind the last: how many entries are of lower houses. A list and no array, since a gate, which holds it, goes by value.
     starts: Vec<u16>,
     ghost few: { vec_len entries ≤ 1024 },
     ghost space: { 1024 ≤ vec_capacity entries },
     ghost houses: { OfHouses entries.items },
-    ghost whole: { vec_len starts ≡ 1024 },
+    ghost whole: { vec_len starts ≡ 1025 },
     ghost started: { Starts starts.items entries.items },
 }
 

@@ -19,8 +19,7 @@ impl Registry {
     pub(crate) fn search(&self, house: u16, name: u16) -> Result<usize, usize>
         ensures { MatchResult result (HasRow self.now.index.entries.items (certificates_of self.now) house name) (Missing self.now.index.entries.items (certificates_of self.now) house name) }
     {
-        let start = self.index.start_of(usize::from(house));
-        let end = self.index.start_of(usize::from(house) + 1);
+        let (start, end) = self.index.entries_of(house);
         let names = &self.index.entries[start..end];
         // Case by case: with `map` and `map_err` the clause stays open.
         match names.binary_search_by_key(&name, |entry| entry.name) {

@@ -3,6 +3,7 @@ use crate::building::{registry_of, subject};
 use certificates::{Certificate, Statement};
 use facts::{is_shown, show};
 use frontier::Ways;
+use frontier::filled::Filled;
 use registry::Registry;
 use sheets::checking::MEMORY_WORDS;
 use std::alloc::Global;
@@ -36,16 +37,25 @@ fn memory_of(heap: Global) -> Result<Vec<u64>, Fail> {
     Ok(memory)
 }
 
+// Any word of the memory may hold houses.
+fn facts_in(memory: &[u64]) -> Result<Filled, Fail> {
+    let Some(facts) = Filled::of_any(memory) else {
+        return Err(Fail::new("memory of another size"));
+    };
+    Ok(facts)
+}
+
 #[test]
 fn least_steps(rt: HostRuntime) -> Result<(), Fail> {
     let heap = rt.alloc();
     let registry = rows_of(heap)?;
     let memory = memory_of(heap)?;
+    let facts = facts_in(&memory)?;
     let mut ways = Ways::new(heap)?;
     let certificate = names(4, 4, 1, [5, 6, 0, 0, 0, 0], 2);
     let mut skip = [0; 16];
     show(&mut skip, 0, 900);
-    let met = ways.reach(&registry, &memory, &certificate, skip);
+    let met = ways.reach(&registry, &facts, &certificate, skip);
     for (house, is_met) in [(3, true), (64, true), (900, false), (2, false), (1, false)] {
         assert_eq!(rt; is_shown(&met, 0, house), is_met);
     }
@@ -61,13 +71,14 @@ fn no_names(rt: HostRuntime) -> Result<(), Fail> {
     let heap = rt.alloc();
     let registry = rows_of(heap)?;
     let memory = memory_of(heap)?;
+    let facts = facts_in(&memory)?;
     let mut ways = Ways::new(heap)?;
     let certificate = names(4, 4, 1023, [0; 6], 0);
     let mut skip = [0; 16];
-    let met = ways.reach(&registry, &memory, &certificate, skip);
+    let met = ways.reach(&registry, &facts, &certificate, skip);
     assert!(rt; is_shown(&met, 0, 1023));
     show(&mut skip, 0, 1023);
-    let met = ways.reach(&registry, &memory, &certificate, skip);
+    let met = ways.reach(&registry, &facts, &certificate, skip);
     assert!(rt; !is_shown(&met, 0, 1023));
     Ok(())
 }

@@ -7,12 +7,12 @@ use Rattle.std.specs.List.{insert}
 pub invariant_of-self-clause-houses : goal.invariant_of-self-clause-houses
 invariant_of-self-clause-houses c =
     let index = c.args.self.now in
-    subst OfHouses (search (rules, c.insert.ensures)) (of_houses index.entries.items c.args.place c.args.entry c.requires.place c.requires.house index.houses)
+    subst OfHouses (search (rules, c.insert_at.ensures.items)) (of_houses index.entries.items c.args.place c.args.entry c.requires.place c.requires.house index.houses)
 
 pub invariant_of-self-clause-started : goal.invariant_of-self-clause-started
 invariant_of-self-clause-started c =
     let index = c.args.self.now in
-    let entered : insert index.entries.items c.args.place c.args.entry ≡ vec_items c.insert.new.self = search (rules, c.insert.ensures) in
+    let entered : insert index.entries.items c.args.place c.args.entry ≡ vec_items c.insert_at.new.entries = search (rules, c.insert_at.ensures.items) in
     λ house small.
     let moved = start_moved index.entries.items c.args.place c.args.entry c.requires.place house (slice_index index.starts.items house) (index.started house small) in
     let is = c.start_behind.ensures.starts house (omega (arith, small, index.whole)) in

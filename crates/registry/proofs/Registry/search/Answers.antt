@@ -5,11 +5,11 @@ use Rattle.std.proofs.Common.{rules}
 use Rattle.std.proofs.lemmas.List.Sorted.{answers_always}
 
 pub slice_bounds-names-count : goal.slice_bounds-names-count
-slice_bounds-names-count c = starts_in_order c.args.self.now.index.entries.items c.args.house c.start_of-start.result c.start_of-end.result (search rules) (search rules)
+slice_bounds-names-count c = starts_in_order c.args.self.now.index.entries.items c.args.house c.entries_of-start.result.0 c.entries_of-start.result.1 c.entries_of-start.ensures.0 c.entries_of-start.ensures.1
 
 pub slice_bounds-names-start : goal.slice_bounds-names-start
 slice_bounds-names-start c =
-    let order = starts_in_order c.args.self.now.index.entries.items c.args.house c.start_of-start.result c.start_of-end.result (search rules) (search rules) in
+    let order = starts_in_order c.args.self.now.index.entries.items c.args.house c.entries_of-start.result.0 c.entries_of-start.result.1 c.entries_of-start.ensures.0 c.entries_of-start.ensures.1 in
     search (rules, order)
 
 pub returns-in-Ok : goal.returns-in-Ok
@@ -17,7 +17,7 @@ returns-in-Ok c =
     let g = c.args.self.now in
     let facts = c.binary_search_by_key.ensures in
     let by_name = facts.position (λ e. e.name) (answers_always _ _ _ (λ f a r g called. search rules)) in
-    found_in_part g.index.entries.items (certificates_of g) g.indexed c.args.house c.args.name c.start_of-start.result c.start_of-end.result (search rules) (search rules)
+    found_in_part g.index.entries.items (certificates_of g) g.indexed c.args.house c.args.name c.entries_of-start.result.0 c.entries_of-start.result.1 c.entries_of-start.ensures.0 c.entries_of-start.ensures.1
     c.in-Ok.place (search rules) (search (rules, by_name))
 
 pub returns-in-Err : goal.returns-in-Err
@@ -25,5 +25,5 @@ returns-in-Err c =
     let g = c.args.self.now in
     let facts = c.binary_search_by_key.ensures in
     let by_name = facts.position (λ e. e.name) (answers_always _ _ _ (λ f a r g called. search rules)) in
-    missing_in_part g.index.entries.items (certificates_of g) g.indexed c.args.house c.args.name c.start_of-start.result c.start_of-end.result (search rules) (search rules)
+    missing_in_part g.index.entries.items (certificates_of g) g.indexed c.args.house c.args.name c.entries_of-start.result.0 c.entries_of-start.result.1 c.entries_of-start.ensures.0 c.entries_of-start.ensures.1
     c.in-Err.place (search rules) (rw (c.in-Err.is, c.deref.ensures.value) at by_name)
