@@ -5,9 +5,9 @@ use Rattle.certificates.specs.declared.Certificate.{Certificate}
 use Rattle.finding.proofs.Lawful.{finds_lawfully}
 use Rattle.finding.specs.Cases.{Row, by_name, ring, ring_with_exit, doubled, had_only, not_passed_on, last_day, day_after, wrong_order, the_owner, ComesTrue, AllComeTrue}
 use Rattle.finding.specs.Finding.{find_sheet}
-use Rattle.keeping.specs.Keeping.{keep}
-use Rattle.turns.specs.Resting.{step_facts}
-use Rattle.rounds.specs.Rounds.{after, round_from, rounds_within, rounds, written, shown_at_end}
+use Rattle.finding_keeping.specs.Keeping.{keep}
+use Rattle.finding_turns.specs.Resting.{step_facts}
+use Rattle.finding_rounds.specs.Rounds.{after, round_from, rounds_within, rounds, written, shown_at_end}
 use Rattle.sheets.proofs.Shown.{impossible}
 use Rattle.sheets.proofs.Sound.{sound}
 use Rattle.sheets.specs.Bytes.{bytes_of_sheet}
@@ -16,9 +16,9 @@ use Rattle.sheets.specs.Facts.{shown}
 use Rattle.sheets.specs.Laws.{Covers}
 use Rattle.sheets.specs.Sheets.{walks, reached, holds_from}
 use Rattle.std.specs.List.{AllByRecursion}
-use Rattle.turns.proofs.Members.{in_rising}
-use Rattle.turns.specs.Turns.{turn}
-use Rattle.turns.specs.Ways.{rising, meant_by, ways, first_to}
+use Rattle.finding_turns.proofs.Members.{in_rising}
+use Rattle.finding_turns.specs.Turns.{turn}
+use Rattle.finding_turns.specs.Ways.{rising, meant_by, ways, first_to}
 use Rattle.wire.specs.Numbers.{bytes, take_numbers}
 use mathlib.Core.List.Memᴰ
 use mathlib.Core.List.{Memᴰ}

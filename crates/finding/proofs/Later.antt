@@ -5,7 +5,7 @@ use Rattle.certificates.specs.declared.Certificate.{Certificate}
 use Rattle.finding.proofs.Worthy.{kept_lines}
 use Rattle.finding.specs.Asking.{sheet_for}
 use Rattle.finding.specs.Worth.{last_day, LastsBy}
-use Rattle.keeping.specs.Marks.{picked}
+use Rattle.finding_keeping.specs.Marks.{picked}
 use Rattle.sheets.proofs.Lines.{first_good}
 use Rattle.sheets.proofs.Shown.{true_from_t, T_from_true, valid_true, valid_from}
 use Rattle.sheets.proofs.Sound.{sound}
@@ -22,9 +22,9 @@ use Rattle.std.specs.Iterator.Adapters.{zip_first, zip_second}
 use Rattle.std.specs.Slice.Iter.{iter_rest}
 use Rattle.std.specs.declared.iter.Zip.{Zip}
 use Rattle.std.specs.declared.slice.Iter.{Iter}
-use Rattle.turns.specs.Found.{lines_found}
-use Rattle.turns.specs.Ways.{rising}
-use Rattle.turns.specs.declared.found.Found.{Found}
+use Rattle.finding_turns.specs.Found.{lines_found}
+use Rattle.finding_turns.specs.Ways.{rising}
+use Rattle.finding_turns.specs.declared.found.Found.{Found}
 
 module _ (cs : List Certificate) (day right : ℕ) where
   -- a line that is good is so on a later day too, if its certificate is valid then; and its certificate lasts

@@ -12,7 +12,7 @@ use Rattle.sheets.specs.Passing.{askable}
 use Rattle.sheets.specs.Sheets.{Line}
 use Rattle.sheets.specs.declared.checking.Question.{Question}
 use Rattle.std.proofs.lemmas.Bool.{and_parts, leb-true}
-use Rattle.turns.specs.Ways.{rising}
+use Rattle.finding_turns.specs.Ways.{rising}
 
 module _ (cs : List Certificate) (q : Question) (covers : Covers (rising 1024) cs) (few : length cs ≤ 1024) where
   pub kept_lines : (lines : List Line) → sheet_for cs q ≡ Some lines → Kept 1024 cs q.day q.right q.owner q.house lines

@@ -5,21 +5,21 @@ use Rattle.finding.specs.Finding.{find_sheet}
 use Rattle.finding.specs.declared.kept_lines.KeptLines.{KeptLines}
 use Rattle.finding.specs.declared.sheets_found.Unfound.{Unfound}
 use Rattle.finding.specs.declared.sheets_found.Unfound.TheVariants.{NoSheet, TooShort, Malformed, OutOfRange, NoMemory, WrongSize}
-use Rattle.round_lines.specs.Lines.{right_size}
-use Rattle.keeping.specs.Marking.{marks_needed}
-use Rattle.keeping.specs.Marks.{picked}
+use Rattle.finding_lines.specs.Lines.{right_size}
+use Rattle.finding_keeping.specs.Marking.{marks_needed}
+use Rattle.finding_keeping.specs.Marks.{picked}
 use Rattle.promise.specs.Requests.{question_of, take_head}
 use Rattle.promise.specs.declared.heads.Head.{Head}
-use Rattle.rounds.specs.Numbers.{name_numbers}
-use Rattle.rounds.specs.Rounds.{written, shown_at_end}
-use Rattle.round_lines.specs.declared.lines.Trouble.{Trouble}
-use Rattle.round_lines.specs.declared.lines.Trouble.TheVariants as troubles
+use Rattle.finding_rounds.specs.Numbers.{name_numbers}
+use Rattle.finding_rounds.specs.Rounds.{written, shown_at_end}
+use Rattle.finding_lines.specs.declared.lines.Trouble.{Trouble}
+use Rattle.finding_lines.specs.declared.lines.Trouble.TheVariants as troubles
 use Rattle.sheets.specs.Bytes.{bytes_of_sheet}
 use Rattle.sheets.specs.Memory.{names_table}
 use Rattle.sheets.specs.Passing.{askable}
 use Rattle.sheets.specs.Sheets.{Line}
 use Rattle.sheets.specs.declared.checking.Question.{Question}
-use Rattle.turns.specs.Found.{lines_found}
+use Rattle.finding_turns.specs.Found.{lines_found}
 use Rattle.wire.specs.Numbers.{Taken, bytes}
 
 -- the head of a request, whose first byte is 4
@@ -70,7 +70,7 @@ module _ (cs : List Certificate) (q : Question) where
     pub short : length request < needed
 
   -- the lent memory holds what all lines that were written show, and their numbers beside it
-  pub record Filled (names name_lines names' name_lines' : List ℕ) : Type 0 where
+  pub record MemoryFilled (names name_lines names' name_lines' : List ℕ) : Type 0 where
     pub names_are : names' ≡ names_table cs (shown_at_end 1024 cs q.day q.right q.owner) (replicate 16384 0)
     pub numbers_are : name_lines' ≡ name_numbers cs 0 (written 1024 cs q.day q.right q.owner) name_lines
 
@@ -91,8 +91,8 @@ module _ (cs : List Certificate) (q : Question) where
   -- The lines of the sheet are kept, or there is a reason why not; memory is filled, or is as it was.
   abbrev pub LinesKept : List ℕ → List ℕ → List ℕ → List ℕ → Result KeptLines Unfound → Type 0
   LinesKept names numbers names' numbers' (Ok kept) =
-      (askable q ≡ true) × (sheet_for cs q ≡ Some (lines_of_kept cs kept)) × Filled names numbers names' numbers'
-  LinesKept names numbers names' numbers' (Err NoSheet) = (sheet_for cs q ≡ None) × Filled names numbers names' numbers'
+      (askable q ≡ true) × (sheet_for cs q ≡ Some (lines_of_kept cs kept)) × MemoryFilled names numbers names' numbers'
+  LinesKept names numbers names' numbers' (Err NoSheet) = (sheet_for cs q ≡ None) × MemoryFilled names numbers names' numbers'
   LinesKept names numbers names' numbers' (Err (TooShort needed)) = ⊥
   LinesKept names numbers names' numbers' (Err Malformed) = ⊥
   LinesKept names numbers names' numbers' (Err OutOfRange) = (askable q ≡ false) × Untouched names numbers names' numbers'
@@ -102,11 +102,11 @@ module _ (cs : List Certificate) (q : Question) where
   -- Each answer with its reason; where no sheet is written the request is as it was.
   abbrev pub Answered : List ℕ → List ℕ → List ℕ → List ℕ → List ℕ → List ℕ → Result ℕ Unfound → Type 0
   Answered names numbers request names' numbers' request' (Ok long) =
-      (askable q ≡ true) × Written request request' long × Filled names numbers names' numbers'
+      (askable q ≡ true) × Written request request' long × MemoryFilled names numbers names' numbers'
   Answered names numbers request names' numbers' request' (Err NoSheet) =
-      (sheet_for cs q ≡ None) × Filled names numbers names' numbers' × (request' ≡ request)
+      (sheet_for cs q ≡ None) × MemoryFilled names numbers names' numbers' × (request' ≡ request)
   Answered names numbers request names' numbers' request' (Err (TooShort needed)) =
-      NoRoom request needed × Filled names numbers names' numbers' × (request' ≡ request)
+      NoRoom request needed × MemoryFilled names numbers names' numbers' × (request' ≡ request)
   Answered names numbers request names' numbers' request' (Err Malformed) = ⊥
   Answered names numbers request names' numbers' request' (Err OutOfRange) =
       (askable q ≡ false) × Untouched names numbers names' numbers' × (request' ≡ request)

@@ -5,12 +5,12 @@ use Rattle.certificates.specs.declared.Certificate.{Certificate}
 use Rattle.certificates.specs.declared.Statement.{Statement}
 use Rattle.certificates.specs.declared.Statement.TheVariants.{Name, Rights}
 use Rattle.finding.specs.Finding.{find_sheet}
-use Rattle.rounds.specs.Rounds.{rounds, written, shown_at_end}
+use Rattle.finding_rounds.specs.Rounds.{rounds, written, shown_at_end}
 use Rattle.sheets.specs.Bytes.{bytes_of_sheet}
 use Rattle.sheets.specs.Checking.{check_sheet}
 use Rattle.sheets.specs.Sheets.{Line}
 use Rattle.std.specs.List.{AllByRecursion}
-use Rattle.turns.specs.Ways.{meant_by}
+use Rattle.finding_turns.specs.Ways.{meant_by}
 use Rattle.wire.specs.Numbers.{places}
 use Rattle.wire.specs.declared.faults.Fault.{Fault}
 use Rattle.wire.specs.declared.faults.Fault.TheVariants.{NotValid, IssuerNotShown, StepNotShown, HouseNotShown}

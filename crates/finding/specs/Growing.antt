@@ -2,12 +2,12 @@
 use Rattle.std.specs.Prelude.{◌≡◌, ℕ, ◌⊎◌, Bool, true, false, cond, ◌&&◌, List, [], ◌∷◌, length, Some, None, Ok, Err, vec_items, Vec, Option, option_map, Result, ◌^◌, ◌<◌, ◌≤◌, ◌==◌, nat_le}
 use Rattle.certificates.specs.Meaning.{May}
 use Rattle.certificates.specs.declared.Certificate.{Certificate}
-use Rattle.finding.specs.Asking.{head_of, sheet_for, Filled, Untouched, Unsought}
+use Rattle.finding.specs.Asking.{head_of, sheet_for, MemoryFilled, Untouched, Unsought}
 use Rattle.promise.specs.Requests.{question_of, receive}
 use Rattle.finding.specs.Worth.{Allowed, gate_of, last_day}
 use Rattle.finding.specs.declared.sheets_found.Unfound.{Unfound}
 use Rattle.finding.specs.declared.sheets_found.Unfound.TheVariants.{NoSheet, TooShort, Malformed, OutOfRange, NoMemory, WrongSize}
-use Rattle.round_lines.specs.Lines.{right_size}
+use Rattle.finding_lines.specs.Lines.{right_size}
 use Rattle.sheets.specs.Passing.{askable}
 use Rattle.sheets.specs.Sheets.{Line}
 use Rattle.sheets.specs.declared.checking.Question.{Question}
@@ -23,7 +23,7 @@ use Rattle.std.specs.declared.alloc.Global.{Global}
 module _ (cs : List Certificate) (q : Question) where
   -- Whether the house may; where it isn't told there is a reason, and lent memory is as it was.
   abbrev pub MayTold : List ℕ → List ℕ → List ℕ → List ℕ → Result Bool Unfound → Type 0
-  MayTold names numbers names' numbers' (Ok may) = Decides may (Allowed cs q) × Filled cs q names numbers names' numbers'
+  MayTold names numbers names' numbers' (Ok may) = Decides may (Allowed cs q) × MemoryFilled cs q names numbers names' numbers'
   MayTold names numbers names' numbers' (Err unfound) = Unsought cs q names numbers names' numbers' unfound
 
   -- the house may on all days from the question's to this one; without one it may not on the question's. Days end before 2 ^ 32
@@ -34,7 +34,7 @@ module _ (cs : List Certificate) (q : Question) where
   -- To which day the sheet holds that is found; where it isn't told there is a reason, and lent memory is as it was.
   abbrev pub UntilTold : List ℕ → List ℕ → List ℕ → List ℕ → Result (Option ℕ) Unfound → Type 0
   UntilTold names numbers names' numbers' (Ok until) =
-      (until ≡ option_map (last_day cs) (sheet_for cs q)) × MayTo until × Filled cs q names numbers names' numbers'
+      (until ≡ option_map (last_day cs) (sheet_for cs q)) × MayTo until × MemoryFilled cs q names numbers names' numbers'
   UntilTold names numbers names' numbers' (Err unfound) = Unsought cs q names numbers names' numbers' unfound
 
 -- A request without lines: looked at as a gate looks at a head; then it has no lines, and nothing follows its head.
@@ -60,9 +60,9 @@ pub record Sheeted (cs : List Certificate) (q : Question) (whole : List ℕ) : T
 module _ (cs : List Certificate) (q : Question) where
   -- what is answered to a request without lines
   abbrev pub SheetTold : List ℕ → List ℕ → List ℕ → List ℕ → Result (Vec ℕ Global) Unfound → Type 0
-  SheetTold names numbers names' numbers' (Ok whole) = (askable q ≡ true) × Sheeted cs q (vec_items whole) × Filled cs q names numbers names' numbers'
-  SheetTold names numbers names' numbers' (Err NoSheet) = (sheet_for cs q ≡ None) × Filled cs q names numbers names' numbers'
-  SheetTold names numbers names' numbers' (Err NoMemory) = Filled cs q names numbers names' numbers' ⊎ Untouched cs q names numbers names' numbers'
+  SheetTold names numbers names' numbers' (Ok whole) = (askable q ≡ true) × Sheeted cs q (vec_items whole) × MemoryFilled cs q names numbers names' numbers'
+  SheetTold names numbers names' numbers' (Err NoSheet) = (sheet_for cs q ≡ None) × MemoryFilled cs q names numbers names' numbers'
+  SheetTold names numbers names' numbers' (Err NoMemory) = MemoryFilled cs q names numbers names' numbers' ⊎ Untouched cs q names numbers names' numbers'
   SheetTold names numbers names' numbers' (Err OutOfRange) = (askable q ≡ false) × Untouched cs q names numbers names' numbers'
   SheetTold names numbers names' numbers' (Err WrongSize) = (right_size names numbers ≡ false) × Untouched cs q names numbers names' numbers'
   SheetTold names numbers names' numbers' (Err (TooShort needed)) = ⊥

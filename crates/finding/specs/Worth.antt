@@ -3,7 +3,7 @@ use Rattle.std.specs.Prelude.{◌≡◌, ℕ, ◌*◌, ◌^◌, ◌<◌, ◌≤�
 use Rattle.certificates.specs.Certificates.{WellFormed}
 use Rattle.certificates.specs.Meaning.{May}
 use Rattle.certificates.specs.declared.Certificate.{Certificate}
-use Rattle.finding.specs.Asking.{head_of, sheet_for, kept_by, lines_of_kept, Filled, Unsought}
+use Rattle.finding.specs.Asking.{head_of, sheet_for, kept_by, lines_of_kept, MemoryFilled, Unsought}
 use Rattle.finding.specs.Wanted.{line_of_wanted}
 use Rattle.finding.specs.declared.kept_lines.KeptLines.{KeptLines}
 use Rattle.promise.specs.Requests.{question_of, receive}
@@ -14,13 +14,13 @@ use Rattle.promise.specs.Promise.{Bytes, request_bytes}
 use Rattle.promise.specs.declared.heads.Head.{Head}
 use Rattle.promise.specs.States.{State}
 use Rattle.promise.specs.declared.answers.Answer.TheVariants.{Open}
-use Rattle.round_lines.specs.declared.lines.Lines.{Lines}
+use Rattle.finding_lines.specs.declared.lines.Lines.{Lines}
 use Rattle.sheets.specs.Passing.{askable}
 use Rattle.sheets.specs.Sheets.{Line, certificate_at}
 use Rattle.sheets.specs.declared.checking.Question.{Question}
 use Rattle.std.specs.Bool.{Decides}
 use Rattle.std.specs.List.{AllByRecursion}
-use Rattle.turns.specs.Found.{lines_found}
+use Rattle.finding_turns.specs.Found.{lines_found}
 use Rattle.wire.specs.Numbers.{Taken}
 use Rattle.wire.specs.declared.faults.Fault.{Fault}
 use Rattle.wire.specs.declared.faults.Fault.TheVariants as faults
@@ -67,7 +67,7 @@ module _ (cs : List Certificate) (q : Question) where
   -- All lines were found, no more than there can be, and what is wanted, exactly where the house may; or there is a reason why not, and memory is as it was.
   abbrev pub WantedFound : List ℕ → List ℕ → List ℕ → List ℕ → Result (Lines × Option Wanted) Unfound → Type 0
   WantedFound names numbers names' numbers' (Ok p) =
-      (askable q ≡ true) × Filled cs q names numbers names' numbers' × (length (vec_items p.0.found) ≤ length cs * 1024) × Decides (is_some p.1) Allowed × SheetBy p.0 numbers' p.1
+      (askable q ≡ true) × MemoryFilled cs q names numbers names' numbers' × (length (vec_items p.0.found) ≤ length cs * 1024) × Decides (is_some p.1) Allowed × SheetBy p.0 numbers' p.1
   WantedFound names numbers names' numbers' (Err unfound) = Unsought cs q names numbers names' numbers' unfound
 
   -- the house may, and the kept lines open the gate and hold as long as their certificates; or there is no sheet and it may not

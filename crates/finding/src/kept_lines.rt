@@ -1,7 +1,7 @@
 // The lines of a sheet, as they lie among all that were found.
 ghost use Rattle.std.specs.Prelude.{◌≡◌, ◌≤◌, vec_len};
 
-use turns::found::Found;
+use finding_turns::found::Found;
 
 // All lines that were found, and which of them are kept. The marks lie beside the lines, since room for them is reserved before any line is found.
 #[derive(Drop)]

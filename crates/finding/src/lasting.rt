@@ -5,8 +5,8 @@ ghost use Rattle.registry.specs.Numbered.{certificate_at, certificates_of};
 ghost use Rattle.std.specs.Prelude.{◌≡◌};
 
 use crate::kept_lines::KeptLines;
+use finding_turns::found::Found;
 use registry::Registry;
-use turns::found::Found;
 
 // The last day on which a line's certificate is valid.
 fn last_of(registry: &Registry, line: &Found) -> u32

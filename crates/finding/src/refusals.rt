@@ -4,7 +4,7 @@ ghost use Rattle.finding.specs.declared.sheets_found.Unfound.TheVariants.{NoMemo
 ghost use Rattle.std.specs.Prelude.{◌≡◌};
 
 use crate::sheets_found::Unfound;
-use round_lines::lines::Trouble;
+use finding_lines::lines::Trouble;
 use std::alloc::{AllocError, AllocFailed};
 
 // Why no lines were looked for.

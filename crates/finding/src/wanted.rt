@@ -3,8 +3,8 @@ ghost use Rattle.finding.specs.Wanted.{line_of_wanted, wanted_in};
 ghost use Rattle.std.specs.Prelude.{◌≡◌};
 
 use facts::is_shown;
-use round_lines::lines::Lines;
-use rounds::numbers::number_at;
+use finding_lines::lines::Lines;
+use finding_rounds::numbers::number_at;
 use sheets::checking::Question;
 use sheets::memory::{DELEGATORS, HOLDERS};
 

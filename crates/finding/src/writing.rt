@@ -1,7 +1,7 @@
 // The kept lines are written into the free end of a request.
 ghost use Rattle.finding.specs.Asking.{lines_of_kept, request_length, with_sheet};
 ghost use Rattle.finding.specs.Growing.{bare_head};
-ghost use Rattle.keeping.specs.Marks.{picked};
+ghost use Rattle.finding_keeping.specs.Marks.{picked};
 ghost use Rattle.promise.specs.Promise.{Bytes, request_bytes};
 ghost use Rattle.promise.specs.declared.heads.Head.{Head as RequestHead};
 ghost use Rattle.registry.specs.Numbered.{certificates_of};
@@ -11,8 +11,8 @@ ghost use Rattle.wire.specs.Numbers.{bytes};
 
 use crate::kept_lines::KeptLines;
 use crate::sheets_found::HEAD;
+use finding_bytes::{marked_bytes, marked_lines, write_marked};
 use registry::Registry;
-use sheet_bytes::{marked_bytes, marked_lines, write_marked};
 use std::alloc::{AllocError, Global};
 
 // Writes how many lines follow the head.

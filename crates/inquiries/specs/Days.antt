@@ -2,7 +2,7 @@
 use Rattle.std.specs.Prelude.{◌≡◌, ℕ, false, ◌⊎◌, List, Ok, Err, is_some, vec_items, Vec, Option, Result}
 use Rattle.certificates.specs.Meaning.{May}
 use Rattle.certificates.specs.declared.Certificate.{Certificate}
-use Rattle.finding.specs.Asking.{Filled, Untouched}
+use Rattle.finding.specs.Asking.{MemoryFilled, Untouched}
 use Rattle.finding.specs.Growing.{MayTo}
 use Rattle.finding.specs.declared.sheets_found.Unfound.{Unfound}
 use Rattle.finding.specs.declared.sheets_found.Unfound.TheVariants.{NoSheet, TooShort, Malformed, OutOfRange, NoMemory, WrongSize}
@@ -14,7 +14,7 @@ use Rattle.promise.specs.Promise.{Bytes}
 use Rattle.promise.specs.Requests.{question_of, run}
 use Rattle.promise.specs.States.{State}
 use Rattle.promise.specs.declared.heads.Head.{Head}
-use Rattle.round_lines.specs.Lines.{right_size}
+use Rattle.finding_lines.specs.Lines.{right_size}
 use Rattle.sheets.specs.Passing.{askable}
 use Rattle.sheets.specs.declared.checking.Question.{Question}
 use Rattle.std.specs.List.{AllByRecursion}
@@ -31,13 +31,13 @@ MayOn cs q day = May cs day q.right q.owner q.house
 -- lent memory is as it was, or as finding on some day leaves it
 pub data Left (cs : List Certificate) (q : Question) (names numbers : List ℕ) : List ℕ → List ℕ → Type 0 where
   as_it_was : {names' numbers' : List ℕ} → names' ≡ names → numbers' ≡ numbers → Left cs q names numbers names' numbers'
-  by_finding : {names' numbers' : List ℕ} (day : ℕ) (names₀ numbers₀ : List ℕ) → Filled cs (on_day q day) names₀ numbers₀ names' numbers' → Left cs q names numbers names' numbers'
+  by_finding : {names' numbers' : List ℕ} (day : ℕ) (names₀ numbers₀ : List ℕ) → MemoryFilled cs (on_day q day) names₀ numbers₀ names' numbers' → Left cs q names numbers names' numbers'
 
 -- what asking on a day comes to: it is known to which day the house may, if it does, and the spans go on; or why not
 abbrev pub AskedOn : List Certificate → Question → ℕ → List ℕ → List ℕ → List ℕ → List ℕ → SpansSoFar → SpansSoFar → Result (Option ℕ) Unfound → Type 0
 AskedOn cs q day names numbers names' numbers' spans spans' (Ok may_to) =
-    MayTo cs (on_day q day) may_to × (so_far spans' ≡ gone_on (vec_items spans.done) spans.since day (is_some may_to)) × Filled cs (on_day q day) names numbers names' numbers'
-AskedOn cs q day names numbers names' numbers' spans spans' (Err NoMemory) = Filled cs (on_day q day) names numbers names' numbers' ⊎ Untouched cs (on_day q day) names numbers names' numbers'
+    MayTo cs (on_day q day) may_to × (so_far spans' ≡ gone_on (vec_items spans.done) spans.since day (is_some may_to)) × MemoryFilled cs (on_day q day) names numbers names' numbers'
+AskedOn cs q day names numbers names' numbers' spans spans' (Err NoMemory) = MemoryFilled cs (on_day q day) names numbers names' numbers' ⊎ Untouched cs (on_day q day) names numbers names' numbers'
 AskedOn cs q day names numbers names' numbers' spans spans' (Err OutOfRange) = (askable q ≡ false) × Untouched cs (on_day q day) names numbers names' numbers'
 AskedOn cs q day names numbers names' numbers' spans spans' (Err WrongSize) = (right_size names numbers ≡ false) × Untouched cs (on_day q day) names numbers names' numbers'
 AskedOn cs q day names numbers names' numbers' spans spans' (Err NoSheet) = ⊥

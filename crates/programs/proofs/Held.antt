@@ -1,6 +1,6 @@
 -- The bytes that are held of a file, taken part by part. Assumes nothing.
 use Rattle.std.proofs.Common.{◌≡◌, ℕ, ◌-◌, Bool, true, List, [], ◌++◌, length, drop, Some, Option, Bor, sym, ap, ◌∙◌, append_assoc, length-append, arith}
-use Rattle.pieces.specs.Pieces.{PieceTaken, StandsLast}
+use Rattle.gates_pieces.specs.Pieces.{PieceTaken, StandsLast}
 use Rattle.programs.specs.Files.{last_bytes}
 use Rattle.programs.specs.Taking.{HeldTaken}
 use Rattle.promise.specs.Promise.{Bytes}

@@ -1,6 +1,6 @@
 -- What is taken of the bytes that are held of a file. Assumes nothing.
 use Rattle.std.specs.Prelude.{◌≡◌, ℕ, ◌<◌, ◌≤◌, Bool, true, List, [], ◌++◌, Some, None, Option}
-use Rattle.pieces.specs.Pieces.{gone_on}
+use Rattle.gates_pieces.specs.Pieces.{gone_on}
 use Rattle.programs.specs.Files.{last_bytes}
 use Rattle.promise.specs.Promise.{Bytes}
 use Rattle.promise.specs.States.{State, deliver}

@@ -4,8 +4,8 @@ use crate::files::Delivery;
 use crate::taking::{new_gate, open_all, take_file};
 use anyhow::{Context, anyhow};
 use finding::sheets_found::{HEAD, Unfound};
+use finding_lines::lines::NUMBERS;
 use gates::Gate;
-use round_lines::lines::NUMBERS;
 use sheets::checking::MEMORY_WORDS;
 use std::process::ExitCode;
 

@@ -6,7 +6,7 @@ ghost use Rattle.std.specs.Prelude.{◌≡◌, ◌<◌, IfOk, OnOk, length, vec_
 use crate::files::{Delivery, open_file};
 use crate::telling::{ByPlace, Part, Telling};
 use gates::Gate;
-use pieces::take_piece;
+use gates_pieces::take_piece;
 use promise::answers::Answer;
 
 // A gate of `owner`, as it begins.

@@ -3,7 +3,7 @@ ghost use Rattle.std.specs.Prelude.{◌<◌};
 
 use crate::files::PIECE;
 use crate::places::begin_of;
-use pieces::LONGEST_EVENT;
+use gates_pieces::LONGEST_EVENT;
 use promise::answers::Answer;
 
 // A part of a file of which events were taken.

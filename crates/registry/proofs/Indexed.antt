@@ -4,7 +4,7 @@ use Rattle.certificates.specs.declared.Certificate.{Certificate}
 use Rattle.registry.proofs.Kept.{row_of_push, length_revoked, row_of_revoked}
 use Rattle.registry.proofs.Lookup.{missing, found, nowhere, row_in_more, row_in_inserted}
 use Rattle.registry.proofs.Order.{searchable, at_inserted, rising_inserted}
-use Rattle.registry.specs.Index.{compared, is_of, Place, row_in, Numbers, Indexes, HasRow, Missing}
+use Rattle.registry.specs.Index.{compared, is_of, Place, row_among, Numbers, Indexes, HasRow, Missing}
 use Rattle.registry.specs.Names.{NewName, NoNewName}
 use Rattle.registry.specs.Numbered.{revoke_at}
 use Rattle.registry.specs.Rows.{says_name, states_name, row_of}
@@ -18,7 +18,7 @@ use Rattle.std.specs.List.Sorted.{IsSearchInRange, IsBinarySearchResult}
 use Rattle.std.specs.Result.{MatchResult}
 
 pub none_indexed : Indexes [] []
-unfolding row_in row_of
+unfolding row_among row_of
 none_indexed = record {
   rising = λ i j d less within. let never : ⊥ = omega arith in absurd never;
   agrees = λ house name. refl;
@@ -35,7 +35,7 @@ new_row false r n new = refl
 
 module _ (es : List Entry) (cs : List Certificate) (so : Indexes es cs) where
   module _ (c : Certificate) where
-    rows_more : (house name : ℕ) → row_in es house name (length (cs ++ (c ∷ []))) ≡ cond (ltb (row_of cs house name) (length cs)) (row_of cs house name) (length cs + 1)
+    rows_more : (house name : ℕ) → row_among es house name (length (cs ++ (c ∷ []))) ≡ cond (ltb (row_of cs house name) (length cs)) (row_of cs house name) (length cs + 1)
     rows_more house name = rw (length_push cs c, row_in_more house name (length cs) es so.numbers, so.agrees house name)
 
     numbers_more : Numbers es (cs ++ (c ∷ []))

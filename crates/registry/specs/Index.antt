@@ -42,13 +42,13 @@ abbrev pub OfHouses : List Entry → Type 0
 OfHouses es = AllWithin (λ e. e.house < 1024) es 0 (length es)
 
 -- the row that the entries have for a house's name; `none` where they don't have it
-unfoldable pub row_in : List Entry → ℕ → ℕ → ℕ → ℕ
-row_in [] house name none = none
-row_in (e ∷ es) house name none = cond (is_of e house name) e.row (row_in es house name none)
+unfoldable pub row_among : List Entry → ℕ → ℕ → ℕ → ℕ
+row_among [] house name none = none
+row_among (e ∷ es) house name none = cond (is_of e house name) e.row (row_among es house name none)
 
 -- every house's name has the same row by the entries as by the certificates
 abbrev pub Agrees : List Entry → List Certificate → Type 0
-Agrees es cs = (house name : ℕ) → row_in es house name (length cs) ≡ row_of cs house name
+Agrees es cs = (house name : ℕ) → row_among es house name (length cs) ≡ row_of cs house name
 
 -- the entries' rows are numbers of certificates, so they have no name that none states
 abbrev pub Numbers : List Entry → List Certificate → Type 0

@@ -1,6 +1,6 @@
 // Deliveries taken together.
 use crate::building::{listed, new_gate};
-use deliveries::receiving::receive_all;
+use gates_deliveries::receiving::receive_all;
 use promise::answers::Answer;
 use sheets::checking::MEMORY_WORDS;
 use std::alloc::Global;

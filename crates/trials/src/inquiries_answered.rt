@@ -1,8 +1,8 @@
 // Requests without lines, asked at a gate that took some deliveries: the days that are told, and the sheet that opens the gate.
 use crate::building::{NUMBERS, check, listed, new_gate};
-use deliveries::receiving::receive_all;
 use finding::sheets_found::Unfound;
 use gates::Gate;
+use gates_deliveries::receiving::receive_all;
 use inquiries::days::days_for;
 use inquiries::sheet::sheet_for;
 use sheets::checking::MEMORY_WORDS;

@@ -2,8 +2,8 @@
 use crate::building::{registry_of, subject};
 use certificates::{Certificate, Statement};
 use facts::{is_shown, show};
-use frontier::Ways;
-use frontier::filled::Filled;
+use finding_frontier::Ways;
+use finding_frontier::filled::FilledRows;
 use registry::Registry;
 use sheets::checking::MEMORY_WORDS;
 use std::alloc::Global;
@@ -38,8 +38,8 @@ fn memory_of(heap: Global) -> Result<Vec<u64>, Fail> {
 }
 
 // Any word of the memory may hold houses.
-fn facts_in(memory: &[u64]) -> Result<Filled, Fail> {
-    let Some(facts) = Filled::of_any(memory) else {
+fn facts_in(memory: &[u64]) -> Result<FilledRows, Fail> {
+    let Some(facts) = FilledRows::of_any(memory) else {
         return Err(Fail::new("memory of another size"));
     };
     Ok(facts)
