@@ -4,7 +4,6 @@ use Rattle.certificates.specs.Rights.{member}
 use Rattle.std.proofs.lemmas.Bool.{lt-leb, cases_eq, eq-eqb, ne_eqb}
 use Rattle.std.proofs.lemmas.Bool.Decides.{nat_tests}
 use Rattle.std.proofs.lemmas.Nat.Bits.{bit_at-lt, bit_at-pow_other, bit_at-pow_same, bit_at_above, bit_at_or}
-use Rattle.std.proofs.lemmas.Nat.{one_shl}
 use lib.Bits.{bit_or}
 
 -- a number above 63 is in no set
@@ -22,10 +21,3 @@ member_power q k = go (cases_eq q k)
     go : (q ≡ k) ⊎ (q ≡ k → ⊥) → member q (2 ^ k) ≡ eqb q k
     go (inl same) = rw same (ap (λ n. eqb n 1) (bit_at-pow_same k) ∙ sym (eq-eqb k k refl))
     go (inr other) = ap (λ n. eqb n 1) (bit_at-pow_other k q other) ∙ sym (ne_eqb q k other)
-
--- the set with one right more
-pub one_joined : (set right q : ℕ) → right < 64 → member q (bit_or set (1 * 2 ^ right % 2 ^ 64)) ≡ (member q set || eqb q right)
-one_joined set right q small =
-    ap (λ n. member q (bit_or set n)) (one_shl right 64 small)
-    ∙ (member_or q set (2 ^ right)
-    ∙ ap (λ b. member q set || b) (member_power q right))

@@ -1,6 +1,6 @@
 // Sets of rights: rights are numbered from 0 to 63, and bit r of a `u64` says whether right r is in the set.
 // A number and not a type of its own: sets are joined and tested by masks, as they stand in the bytes.
-ghost use Rattle.std.specs.Prelude.{◌≡◌, ℕ, ◌<◌, ◌||◌, ◌==◌};
+ghost use Rattle.std.specs.Prelude.{◌≡◌};
 ghost use Rattle.certificates.specs.Rights.{member};
 
 // Rights are numbered from 0 to this one.
@@ -12,15 +12,4 @@ pub fn contains(set: u64, right: u8) -> bool
     ensures { result ≡ member right set }
 {
     right <= LAST_RIGHT && set >> right & 1 == 1
-}
-
-// The set with `right` in it too; a number above 63 changes nothing.
-#[tactic(auto, using(crate::proofs::Bits::one_joined))]
-pub fn with(set: u64, right: u8) -> u64
-    ensures { (q : ℕ) → q < 64 → member q result ≡ (member q set || q == right) }
-{
-    if right > LAST_RIGHT {
-        return set;
-    }
-    set | 1 << right
 }

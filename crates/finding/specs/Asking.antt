@@ -113,8 +113,3 @@ module _ (cs : List Certificate) (q : Question) where
   Answered names numbers request names' numbers' request' (Err WrongSize) =
       (right_size names numbers ≡ false) × Untouched names numbers names' numbers' × (request' ≡ request)
   Answered names numbers request names' numbers' request' (Err NoMemory) = Untouched names numbers names' numbers' × (request' ≡ request)
-
--- What is no request, or has a head that is cut, is refused, and nothing is touched; else it is answered for what its head asks.
-abbrev pub HeadAnswered : List Certificate → ℕ → ℕ → List ℕ → List ℕ → List ℕ → List ℕ → List ℕ → List ℕ → Result ℕ Unfound → Taken Head → Type 0
-HeadAnswered cs day owner names numbers request names' numbers' request' r None = (r ≡ Err Malformed) × (names' ≡ names) × (numbers' ≡ numbers) × (request' ≡ request)
-HeadAnswered cs day owner names numbers request names' numbers' request' r (Some p) = Answered cs (question_of day owner p.0) names numbers request names' numbers' request' r

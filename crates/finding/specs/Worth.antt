@@ -104,8 +104,3 @@ module _ (cs : List Certificate) (q : Question) where
   Worth (Err OutOfRange) = Unit {0}
   Worth (Err NoMemory) = Unit {0}
   Worth (Err WrongSize) = Unit {0}
-
--- For a request with a head: its answer is worth this for what the head asks, and what was written opens.
-abbrev pub RequestWorth : List Certificate → ℕ → ℕ → List ℕ → Result ℕ Unfound → Taken Head → Type 0
-RequestWorth cs day owner request' r None = Unit {0}
-RequestWorth cs day owner request' r (Some p) = Worth cs (question_of day owner p.0) r × WrittenOpens cs (question_of day owner p.0) request' r

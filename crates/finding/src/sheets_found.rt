@@ -1,8 +1,8 @@
 // A sheet is found for a question, and written into the free end of a request.
 // The lent slices go side by side, and a reader's answer is taken apart by `let .. else`: rules of the project.
 ghost use Rattle.std.specs.Prelude.{◌≡◌};
-ghost use Rattle.finding.specs.Asking.{Answered, head_of, HeadAnswered};
-ghost use Rattle.finding.specs.Worth.{Worth, OpensAsked, RequestWorth, fault_of};
+ghost use Rattle.finding.specs.Asking.{Answered, head_of};
+ghost use Rattle.finding.specs.Worth.{Worth, OpensAsked, fault_of};
 ghost use Rattle.promise.specs.Promise.{Bytes};
 ghost use Rattle.registry.specs.Numbered.{certificates_of};
 ghost use Rattle.wire.specs.Numbers.{split};
@@ -66,26 +66,6 @@ pub(crate) fn asked(request: &[u8]) -> Option<(Head, &[u8])>
         return None;
     };
     read_head(request)
-}
-
-// Finds the sheet for a request whose head is in front and whose end is free, at the owner's gate on a day.
-pub fn find_request(
-    heap: Global,
-    registry: &Registry,
-    day: u32,
-    owner: u16,
-    names: &mut [u64],
-    name_lines: &mut [u32],
-    request: &mut [u8],
-) -> Result<usize, Unfound>
-    ensures answered { HeadAnswered (certificates_of registry.now) day owner names.old name_lines.old request.old names.new name_lines.new request.new result (head_of request.old) }
-    ensures worth { RequestWorth (certificates_of registry.now) day owner request.new result (head_of request.old) }
-{
-    let Some((head, _)) = asked(request) else {
-        return Err(Unfound::Malformed);
-    };
-    let question = head.question(day, owner);
-    find(heap, registry, &question, names, name_lines, request)
 }
 
 impl Unfound {

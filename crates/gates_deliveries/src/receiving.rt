@@ -2,7 +2,7 @@
 ghost use Rattle.gates_deliveries.specs.Lists.{bytes_of, Untaken, Stopped};
 ghost use Rattle.gates.specs.Gates.{state_of, Unanswered};
 ghost use Rattle.gates.specs.declared.troubles.Trouble.TheVariants.{NoMemory};
-ghost use Rattle.promise.specs.Promise.{Bytes, KeptPromise, KeptAll};
+ghost use Rattle.promise.specs.Promise.{Bytes, KeptAll};
 ghost use Rattle.promise.specs.Requests.{answer, left_by, told, receive, left_by_delivery, onto, receive_all, left_by_all};
 ghost use Rattle.promise.specs.States.{deliver};
 ghost use Rattle.promise.specs.declared.answers.Answer.TheVariants.{Refused};
@@ -77,23 +77,6 @@ fn take_delivery(
         }
         [..] => take_all(gate, bytes, answers),
     }
-}
-
-// Takes a delivery: the gate after it, and its answers in their order. It keeps what is promised of all deliveries so far.
-#[tactic(auto, using(crate::proofs::Kept::delivery_kept))]
-pub fn receive(
-    gate: Gate,
-    heap: Global,
-    bytes: &[u8],
-    memory: &mut [u64],
-) -> Result<(Gate, Vec<Answer>), Trouble>
-    ensures value { MatchResult result (λ p. (state_of p.0, p.1.items) ≡ receive (state_of gate) bytes.now) (λ t. Untaken t bytes.now (length memory.old)) }
-    ensures memory { MatchResult result (λ _. memory.new ≡ left_by_delivery (state_of gate) bytes.now memory.old) (λ _. memory.new ≡ memory.old) }
-    ensures promised { IfOk result (λ p. KeptPromise (state_of gate) bytes.now (state_of p.0) p.1.items) }
-{
-    let mut answers = Vec::new(heap);
-    let gate = take_delivery(gate, bytes, memory, &mut answers)?;
-    Ok((gate, answers))
 }
 
 // Takes some deliveries, one after the other: the gate after them, and all answers in their order.

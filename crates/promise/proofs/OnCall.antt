@@ -1,7 +1,7 @@
 -- The promise on the calls that take deliveries and answer requests. Assumes nothing.
 use Rattle.std.proofs.Common.{◌≡◌, ℕ, ◌<◌, List, [], ◌∷◌, ◌++◌, IfOk, Ok, Err, Result, sym, refl, ap, ◌∙◌, subst, MatchResult}
 use Rattle.promise.proofs.Promised.{main}
-use Rattle.promise.specs.Promise.{Bytes, AllLetIn, KeptPromise, KeptAnswer, EachLetIn, KeptAll, request_bytes}
+use Rattle.promise.specs.Promise.{Bytes, AllLetIn, KeptAnswer, EachLetIn, KeptAll, request_bytes}
 use Rattle.promise.specs.Requests.{answer, receive, receive_all, after, run}
 use Rattle.promise.specs.States.{State}
 use Rattle.promise.specs.declared.answers.Answer.{Answer}
@@ -36,19 +36,11 @@ every_kept owner known ds all g from house right small small-right may =
     let (lines, opens, few) = (main.0 owner known ds all).every house right small small-right may in
     (lines, ap (λ (h : State). (receive h (request_bytes house right lines)).1) from ∙ opens, few)
 
-pub promise_kept : (g : State) (d : List ℕ) (g' : State) (answers : List Answer) → g.owner < 1024 → Bytes d → (g', answers) ≡ receive g d → KeptPromise g d g' answers
-promise_kept g d g' answers known small is = record {
-  goes_on = λ ds from. ap (λ (p : State × List Answer). p.0) is ∙ (ap (λ (h : State). (receive h d).0) from ∙ sym (one_after _ ds d));
-  only = λ ds all from open-there.
-      (main.0 g.owner known ds all).only d small
-      (subst (λ (given : List Answer). Memᴰ Open given) (ap (λ (p : State × List Answer). p.1) is ∙ ap (λ (h : State). (receive h d).1) from) open-there);
-  every = λ ds all from. every_kept g.owner known ds all g from;
-}
-
 pub answer_kept_lem : (g : State) (d : List ℕ) (answered : Answer) → g.owner < 1024 → Bytes d → answered ≡ answer g d → KeptAnswer g d answered
 answer_kept_lem g d answered known small is lines begins ds all from opens =
     let same : (receive g d).1 ≡ answer g d ∷ [] = rw begins in
-    (promise_kept g d (receive g d).0 (receive g d).1 known small refl).only ds all from (rw same (Memᴰ.head (sym opens ∙ is)))
+    (main.0 g.owner known ds all).only d small
+    (subst (λ (given : List Answer). Memᴰ Open given) (ap (λ (h : State). (receive h d).1) from) (rw same (Memᴰ.head (sym opens ∙ is))))
 
 each_kept : (owner : ℕ) → owner < 1024 → (before ds : List (List ℕ)) → AllByRecursion Bytes before → AllByRecursion Bytes ds → (g : State) → g ≡ run owner before →
     EachLetIn owner before ds (receive_all g ds).1

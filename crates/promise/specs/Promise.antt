@@ -49,13 +49,6 @@ pub record Promised (owner : ℕ) (ds : List (List ℕ)) : Type 0 where
 abbrev pub Main : Type 0
 Main = ((owner : ℕ) → owner < 1024 → (ds : List (List ℕ)) → AllByRecursion Bytes ds → Promised owner ds) × (Grows × FromOwner)
 
--- What a gate keeps when it takes a delivery d: whatever the deliveries ds were by which it came about,
--- it is then the gate after one more, who is let in may, and whoever may had a request with which they are let in.
-pub record KeptPromise (g : State) (d : List ℕ) (g' : State) (answers : List Answer) : Type 0 where
-  pub goes_on : (ds : List (List ℕ)) → g ≡ run g.owner ds → g' ≡ run g.owner (ds ++ (d ∷ []))
-  pub only : (ds : List (List ℕ)) → AllByRecursion Bytes ds → g ≡ run g.owner ds → Memᴰ Open answers → LetIn g.owner ds d
-  pub every : (ds : List (List ℕ)) → AllByRecursion Bytes ds → g ≡ run g.owner ds → AllLetIn g.owner ds g
-
 -- What a gate keeps when it answers a request d: whatever the deliveries ds were by which it came about, who is let in may.
 abbrev pub KeptAnswer : State → List ℕ → Answer → Type 0
 KeptAnswer g d answered =
