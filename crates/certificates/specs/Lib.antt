@@ -1,4 +1,5 @@
 pub mod Rights
+pub mod Access
 pub mod Certificates
 pub mod Meaning
 pub mod Laws

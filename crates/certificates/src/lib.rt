@@ -1,11 +1,15 @@
 // A certificate is what one house states for a span of days: what one of its names stands for, or who has rights.
 #![tactic(auto)]
 
-ghost use Rattle.std.specs.Prelude.{◌≡◌, ℕ, Bool, Decides};
-ghost use Rattle.certificates.specs.Certificates.{names_of, in_range, valid, Valid, gives, Gives, revoked_of};
+ghost use Rattle.std.specs.Prelude.{◌≡◌, ℕ, Bool, Decides, length, min};
+ghost use Rattle.certificates.specs.Certificates.{names_of, subject_of, in_range, valid, Valid, gives, Gives, revoked_of};
+ghost use Rattle.certificates.specs.declared.Subject.{Subject};
 
+pub mod access;
 pub mod laws;
 pub mod rights;
+
+use access::Access;
 
 // How many houses there are.
 pub const HOUSES: usize = 1024;
@@ -26,28 +30,47 @@ pub struct Subject {
 }
 
 impl Subject {
-    // Its names, without the zeros behind them.
+    // Its names, without the zeros behind them: as many as its count says, and no more than six.
     pub fn names(&self) -> &[u16]
-        ensures { result.now ≡ names_of self.now }
+        ensures value { result.now ≡ names_of self.now }
+        ensures many { length result.now ≡ min self.now.count 6 }
     {
         &self.names[..usize::from(self.count).min(MOST_NAMES)]
     }
 }
 
-// What the issuer says of the subject. A flag tells rights that may be passed on, and no third case: a rule of the project.
+// What the issuer says, and of whom. A flag tells rights that may be passed on, and no third case: a rule of the project.
+// The subject comes first in each case, so it lies at one place, and is found without a look at the case.
 #[derive(Clone, Copy, Debug, PartialEq, Eq)]
 pub enum Statement {
-    // this name of the issuer stands for the subject
-    Name(u16),
+    // the subject is what this name of the issuer stands for
+    Name {
+        subject: Subject,
+        name: u16,
+    },
     // the subject has these rights, and may pass them on (delegate them) if the flag says so
-    Rights { rights: u64, delegable: bool },
+    Rights {
+        subject: Subject,
+        rights: u64,
+        delegable: bool,
+    },
+}
+
+impl Statement {
+    // Of whom it speaks.
+    pub fn subject(&self) -> &Subject
+        ensures { result.now ≡ subject_of self.now }
+    {
+        match self {
+            Statement::Name { subject, .. } | Statement::Rights { subject, .. } => subject,
+        }
+    }
 }
 
 // Valid from the first day to the last, both included; never if the last lies before the first.
 #[derive(Clone, Copy, Debug, PartialEq, Eq)]
 pub struct Certificate {
     pub issuer: u16,
-    pub subject: Subject,
     pub first: u32,
     pub last: u32,
     pub statement: Statement,
@@ -59,12 +82,13 @@ impl Certificate {
         ensures { result ≡ in_range self.now }
     {
         let some_right = match self.statement {
-            Statement::Name(_) => true,
+            Statement::Name { .. } => true,
             Statement::Rights { rights, .. } => rights > 0,
         };
+        let subject = self.statement.subject();
         self.issuer <= LAST_HOUSE
-            && self.subject.house <= LAST_HOUSE
-            && usize::from(self.subject.count) <= MOST_NAMES
+            && subject.house <= LAST_HOUSE
+            && usize::from(subject.count) <= MOST_NAMES
             && some_right
     }
 
@@ -76,14 +100,15 @@ impl Certificate {
         self.first <= day && day <= self.last
     }
 
-    // Whether the certificate gives `right`; one that states a name gives none.
-    pub fn gives(&self, right: u8) -> bool
-        ensures value { result ≡ gives right self.now }
-        ensures decides { Decides result ((delegable : Bool) × Gives right delegable self.now) }
+    // Whether the certificate gives what is asked for, as far as its statement goes: its days and its issuer are looked at apart.
+    // One that states a name gives nothing.
+    pub fn gives(&self, access: &Access) -> bool
+        ensures value { result ≡ gives access.now self.now }
+        ensures decides { Decides result ((delegable : Bool) × (who : Subject) × Gives access.now delegable who self.now) }
     {
         match self.statement {
-            Statement::Name(_) => false,
-            Statement::Rights { rights, .. } => rights::contains(rights, right),
+            Statement::Name { .. } => false,
+            Statement::Rights { rights, .. } => rights::contains(rights, access.right),
         }
     }
 

@@ -1,6 +1,8 @@
 -- A sheet holds as long as all its certificates are valid. Assumes nothing.
+use Rattle.certificates.specs.Access.{on_day}
+use Rattle.certificates.specs.declared.access.Access.{Access}
 use Rattle.std.proofs.Common.{◌≡◌, ℕ, ◌≤◌, ◌^◌, ◌<◌, true, Bool, false, List, [], ◌∷◌, min, ◌⊎◌, inl, inr, length, Some, None, Option, sym, refl, ◌∙◌, arith}
-use Rattle.certificates.specs.Certificates.{names_of, Valid, valid}
+use Rattle.certificates.specs.Certificates.{names_of, Valid, valid, subject_of}
 use Rattle.certificates.specs.declared.Certificate.{Certificate}
 use Rattle.finding.proofs.Worthy.{kept_lines}
 use Rattle.finding.specs.Asking.{sheet_for}
@@ -26,41 +28,41 @@ use Rattle.finding_turns.specs.Found.{lines_found}
 use Rattle.finding_turns.specs.Ways.{rising}
 use Rattle.finding_turns.specs.declared.found.Found.{Found}
 
-module _ (cs : List Certificate) (day right : ℕ) where
+module _ (cs : List Certificate) (access : Access) where
   -- a line that is good is so on a later day too, if its certificate is valid then; and its certificate lasts
-  later_good : (other : ℕ) (facts : List Fact) (l : Line) → day ≤ other → other ≤ (certificate_at cs l.certificate).last →
-      good day right facts (certificate_at cs l.certificate) l.houses ≡ true → good other right facts (certificate_at cs l.certificate) l.houses ≡ true
+  later_good : (other : ℕ) (facts : List Fact) (l : Line) → access.day ≤ other → other ≤ (certificate_at cs l.certificate).last →
+      good access facts (certificate_at cs l.certificate) l.houses ≡ true → good (on_day other access) facts (certificate_at cs l.certificate) l.houses ≡ true
   later_good other facts l from to g =
       let c = certificate_at cs l.certificate in
-      let (r, w) = and_parts (ripe day right facts c) (walks facts c.subject.house (names_of c.subject) l.houses) g in
-      let (v, a) = and_parts (valid day c) (authorized right facts c.issuer c.statement) r in
-      let begun = (valid_true day c v).begun in
+      let (r, w) = and_parts (ripe access facts c) (walks facts (subject_of c.statement).house (names_of (subject_of c.statement)) l.houses) g in
+      let (v, a) = and_parts (valid access.day c) (authorized access facts c.issuer c.statement) r in
+      let begun = (valid_true access.day c v).begun in
       let now : Valid other c = record { begun = omega arith; lasts = to } in
-      and_from (ripe other right facts c) (walks facts c.subject.house (names_of c.subject) l.houses)
-      (and_from (valid other c) (authorized right facts c.issuer c.statement) (valid_from other c now) a) w
+      and_from (ripe (on_day other access) facts c) (walks facts (subject_of c.statement).house (names_of (subject_of c.statement)) l.houses)
+      (and_from (valid other c) (authorized access facts c.issuer c.statement) (valid_from other c now) a) w
 
-  good_lasts : (facts : List Fact) (l : Line) → good day right facts (certificate_at cs l.certificate) l.houses ≡ true → day ≤ (certificate_at cs l.certificate).last
+  good_lasts : (facts : List Fact) (l : Line) → good access facts (certificate_at cs l.certificate) l.houses ≡ true → access.day ≤ (certificate_at cs l.certificate).last
   good_lasts facts l g =
       let c = certificate_at cs l.certificate in
-      let (r, w) = and_parts (ripe day right facts c) (walks facts c.subject.house (names_of c.subject) l.houses) g in
-      let (v, a) = and_parts (valid day c) (authorized right facts c.issuer c.statement) r in
-      (valid_true day c v).lasts
+      let (r, w) = and_parts (ripe access facts c) (walks facts (subject_of c.statement).house (names_of (subject_of c.statement)) l.houses) g in
+      let (v, a) = and_parts (valid access.day c) (authorized access facts c.issuer c.statement) r in
+      (valid_true access.day c v).lasts
 
   -- so it is with lines that hold
-  later_holds : (other house : ℕ) (facts : List Fact) (lines : List Line) → day ≤ other → other ≤ last_day cs lines →
-      holds_from cs day right facts lines house ≡ true → holds_from cs other right facts lines house ≡ true
+  later_holds : (other house : ℕ) (facts : List Fact) (lines : List Line) → access.day ≤ other → other ≤ last_day cs lines →
+      holds_from cs access facts lines house ≡ true → holds_from cs (on_day other access) facts lines house ≡ true
   unfolding holds_from last_day
   later_holds other house facts [] from to e = e
   later_holds other house facts (l ∷ lines) from to e =
-      let (g, rest) = first_good cs day right facts house l lines e in
-      and_from (good other right facts (certificate_at cs l.certificate) l.houses) (holds_from cs other right (shows cs l ∷ facts) lines house)
+      let (g, rest) = first_good cs access facts house l lines e in
+      and_from (good (on_day other access) facts (certificate_at cs l.certificate) l.houses) (holds_from cs (on_day other access) (shows cs l ∷ facts) lines house)
       (later_good other facts l from (omega (arith, to)) g) (later_holds other house (shows cs l ∷ facts) lines from (omega (arith, to)) rest)
 
-  all_last : (house : ℕ) (facts : List Fact) (lines : List Line) → day < 2 ^ 32 → holds_from cs day right facts lines house ≡ true → day ≤ last_day cs lines
+  all_last : (house : ℕ) (facts : List Fact) (lines : List Line) → access.day < 2 ^ 32 → holds_from cs access facts lines house ≡ true → access.day ≤ last_day cs lines
   unfolding last_day
   all_last house facts [] small e = omega arith
   all_last house facts (l ∷ lines) small e =
-      let (g, rest) = first_good cs day right facts house l lines e in
+      let (g, rest) = first_good cs access facts house l lines e in
       let here = good_lasts facts l g in
       let behind = all_last house (shows cs l ∷ facts) lines small rest in
       omega arith
@@ -68,9 +70,9 @@ module _ (cs : List Certificate) (day right : ℕ) where
 -- the sheet that is found lasts so
 pub lines_last : (cs : List Certificate) (q : Question) → Covers (rising 1024) cs → length cs ≤ 1024 → (lines : List Line) → sheet_for cs q ≡ Some lines → LastsBy cs q lines
 lines_last cs q covers few lines is =
-    let e = true_from_t (holds cs q.day q.right q.owner lines q.house) (kept_lines cs q covers few lines is).hold in (
-      λ small. all_last cs q.day q.right q.house (start q.owner) lines small e,
-      λ day from to. sound cs day q.right q.owner q.house lines (T_from_true (holds cs day q.right q.owner lines q.house) (later_holds cs q.day q.right day q.house (start q.owner) lines from to e)),
+    let e = true_from_t (holds cs q.access lines q.house) (kept_lines cs q covers few lines is).hold in (
+      λ small. all_last cs q.access q.house (start q.access.owner) lines small e,
+      λ day from to. sound cs (on_day day q.access) q.house lines (T_from_true (holds cs (on_day day q.access) lines q.house) (later_holds cs q.access day q.house (start q.access.owner) lines from to e)),
     )
 
 -- A loop over lines and their marks: the last day of those that are left.

@@ -1,7 +1,7 @@
 -- What is written into a request opens the gate. Assumes nothing.
-use Rattle.std.proofs.Common.{◌≡◌, ℕ, ◌≤◌, Bool, true, false, cond, ◌&&◌, eqb, leb, List, [], ◌∷◌, ◌++◌, length, get_or, take, drop, Some, None, Ok, Err, Result, sym, refl, ap, ◌∙◌, ap₂, append_assoc, arith}
+use Rattle.std.proofs.Common.{◌≡◌, ℕ, ◌≤◌, Bool, true, false, cond, ◌&&◌, eqb, leb, List, [], ◌∷◌, ◌++◌, length, take, drop, Some, None, Ok, Err, Result, sym, ap, ◌∙◌, ap₂, append_assoc, arith}
 use Rattle.certificates.specs.declared.Certificate.{Certificate}
-use Rattle.finding.specs.Asking.{request_length, with_sheet, head_of}
+use Rattle.finding.specs.Asking.{request_length, with_sheet}
 use Rattle.finding.specs.Growing.{looked_at, bare_head}
 use Rattle.finding.specs.Worth.{gate_of, OpenedBy, OpensAsked}
 use Rattle.finding.specs.declared.sheets_found.Unfound.{Unfound}
@@ -15,14 +15,8 @@ use Rattle.sheets.specs.Bytes.{bytes_of_sheet}
 use Rattle.sheets.specs.Sheets.{Line}
 use Rattle.sheets.specs.declared.checking.Question.{Question}
 use Rattle.std.proofs.lemmas.List.{take_at, take-take, length-append, length-take, take-append-le}
-use Rattle.std.proofs.lemmas.Bool.{eqb-true}
 use Rattle.wire.proofs.Numerals.{length_bytes}
 use Rattle.wire.specs.Numbers.{Taken, bytes}
-
--- what is read by a test was read, and the test holds
-tested : (t : Bool) (x : Taken Head) (y : Head × List ℕ) → cond t x None ≡ Some y → (t ≡ true) × (x ≡ Some y)
-tested true x y is = (refl, is)
-tested false x y is = impossible (cc)
 
 -- the first four bytes of a request
 abbrev pub front : Head → List ℕ
@@ -31,15 +25,11 @@ front h = 4 ∷ (bytes 2 h.house ++ (h.right ∷ []))
 front_long : (h : Head) → length (front h) ≡ 4
 front_long h = omega (arith, length-append (bytes 2 h.house) (h.right ∷ []), length_bytes 2 h.house)
 
-pub front_read : (request : List ℕ) → Bytes request → (h : Head) (rest : List ℕ) → head_of request ≡ Some (h, rest) → take 4 request ≡ front h
-front_read [] small h rest is = impossible (cc)
-front_read (b ∷ s) small h rest is =
-    let (four, read) = tested (eqb b 4) (take_head (b ∷ s)) (h, rest) is in
-    let (kind, w) = head_written (b ∷ s) small h rest read in
-    let kind_is : b ≡ kind = ap (λ xs. get_or xs 0 0) w in
+pub front_read : (request : List ℕ) → Bytes request → (h : Head) (rest : List ℕ) → take_head request ≡ Some (h, rest) → take 4 request ≡ front h
+front_read request small h rest is =
     let behind = bytes 4 h.lines ++ rest in
-    let parted : b ∷ s ≡ front h ++ behind =
-    w ∙ (ap (λ k. k ∷ (bytes 2 h.house ++ (h.right ∷ behind))) (sym kind_is ∙ eqb-true b 4 four) ∙ ap (λ t. 4 ∷ t) (sym (append_assoc (bytes 2 h.house) (h.right ∷ []) behind))) in
+    let parted : request ≡ front h ++ behind
+    = head_written request small h rest is ∙ ap (λ t. 4 ∷ t) (sym (append_assoc (bytes 2 h.house) (h.right ∷ []) behind)) in
     ap (take 4) parted ∙ take_at (front h) behind 4 (front_long h)
 
 -- of what was written the front is the request with its sheet, if the first four bytes are those of its head
@@ -59,9 +49,9 @@ with_front request h is lines =
 -- so it opens the gate
 pub written_opens : (cs : List Certificate) (q : Question) (request request' : List ℕ) (lines : List Line) (long : ℕ) →
     request' ≡ with_sheet request lines → long ≡ request_length lines → OpenedBy cs q lines → OpensAsked cs q request request' (Ok long)
-written_opens cs q request request' lines long wrote long_is opened = λ small h rest is house right well.
-    let bytes_are : take long request' ≡ request_bytes q.house q.right lines =
-    ap₂ take long_is wrote ∙ (with_front request h (front_read request small h rest is) lines ∙ ap₂ (λ a b. request_bytes a b lines) house right) in
+written_opens cs q request request' lines long wrote long_is opened = λ small h rest is house access well.
+    let bytes_are : take long request' ≡ request_bytes q.house q.access.right lines =
+    ap₂ take long_is wrote ∙ (with_front request h (front_read request small h rest is) lines ∙ ap₂ (λ a b. request_bytes a b lines) house access) in
     ap (λ xs. (receive (gate_of cs q) xs).1) bytes_are ∙ opened well
 
 kept_head : (t : Bool) (h h' : Head) (r : Result Head Unfound) → (r ≡ Ok h → h' ≡ h) → (e : Unfound) → cond t r (Err e) ≡ Ok h → h' ≡ h
@@ -80,7 +70,7 @@ bare_read h (Some p) is =
 pub behind_head : (head request request' more behind : List ℕ) (lines : List Line) (long : ℕ) → request ≡ take (request_length lines) head ++ more → long ≡ request_length lines →
     request' ≡ with_sheet request lines → Bytes head → (h : Head) → bare_head head ≡ Ok h → take long (request' ++ behind) ≡ request_bytes h.house h.right lines
 behind_head head request request' more behind lines long is long_is wrote small h taken =
-    let (rest, read) = bare_read h (head_of head) taken in
+    let (rest, read) = bare_read h (take_head head) taken in
     let n = request_length lines in
     let first = front_read head small h rest read in
     let four : length (take 4 head) ≡ 4 = ap length first ∙ front_long h in

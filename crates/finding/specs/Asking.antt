@@ -1,5 +1,5 @@
 -- What finding answers, what it writes into a request, and what it leaves in lent memory. Assumes nothing.
-use Rattle.std.specs.Prelude.{◌≡◌, ℕ, ◌+◌, ◌<◌, ◌≤◌, true, false, cond, List, [], ◌∷◌, ◌++◌, length, take, drop, replicate, Some, None, Ok, Err, Option, Result, vec_items, ◌==◌}
+use Rattle.std.specs.Prelude.{◌≡◌, ℕ, ◌+◌, ◌<◌, ◌≤◌, true, false, List, [], ◌++◌, length, take, drop, replicate, Some, None, Ok, Err, Option, Result, vec_items}
 use Rattle.certificates.specs.declared.Certificate.{Certificate}
 use Rattle.finding.specs.Finding.{find_sheet}
 use Rattle.finding.specs.declared.kept_lines.KeptLines.{KeptLines}
@@ -8,8 +8,6 @@ use Rattle.finding.specs.declared.sheets_found.Unfound.TheVariants.{NoSheet, Too
 use Rattle.finding_lines.specs.Lines.{right_size}
 use Rattle.finding_keeping.specs.Marking.{marks_needed}
 use Rattle.finding_keeping.specs.Marks.{picked}
-use Rattle.promise.specs.Requests.{question_of, take_head}
-use Rattle.promise.specs.declared.heads.Head.{Head}
 use Rattle.finding_rounds.specs.Numbers.{name_numbers}
 use Rattle.finding_rounds.specs.Rounds.{written, shown_at_end}
 use Rattle.finding_lines.specs.declared.lines.Trouble.{Trouble}
@@ -20,16 +18,11 @@ use Rattle.sheets.specs.Passing.{askable}
 use Rattle.sheets.specs.Sheets.{Line}
 use Rattle.sheets.specs.declared.checking.Question.{Question}
 use Rattle.finding_turns.specs.Found.{lines_found}
-use Rattle.wire.specs.Numbers.{Taken, bytes}
-
--- the head of a request, whose first byte is 4
-abbrev pub head_of : List ℕ → Taken Head
-head_of [] = None
-head_of (b ∷ s) = cond (b == 4) (take_head (b ∷ s)) None
+use Rattle.wire.specs.Numbers.{bytes}
 
 -- the sheet that is found for a question
 abbrev pub sheet_for : List Certificate → Question → Option (List Line)
-sheet_for cs q = find_sheet 1024 cs q.day q.right q.owner q.house
+sheet_for cs q = find_sheet 1024 cs q.access q.house
 
 -- how many bytes a request with these lines has: a head of eight, and the lines
 abbrev pub request_length : List Line → ℕ
@@ -71,8 +64,8 @@ module _ (cs : List Certificate) (q : Question) where
 
   -- the lent memory holds what all lines that were written show, and their numbers beside it
   pub record MemoryFilled (names name_lines names' name_lines' : List ℕ) : Type 0 where
-    pub names_are : names' ≡ names_table cs (shown_at_end 1024 cs q.day q.right q.owner) (replicate 16384 0)
-    pub numbers_are : name_lines' ≡ name_numbers cs 0 (written 1024 cs q.day q.right q.owner) name_lines
+    pub names_are : names' ≡ names_table cs (shown_at_end 1024 cs q.access) (replicate 16384 0)
+    pub numbers_are : name_lines' ≡ name_numbers cs 0 (written 1024 cs q.access) name_lines
 
   -- or is as it was
   pub record Untouched (names name_lines names' name_lines' : List ℕ) : Type 0 where

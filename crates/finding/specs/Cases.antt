@@ -2,6 +2,8 @@
 use Rattle.std.specs.Prelude.{◌≡◌, ℕ, Bool, true, false, List, [], ◌∷◌, length, is_some, Some, None, Ok, Err, Decides, Option, Result}
 use Rattle.certificates.specs.Meaning.{May}
 use Rattle.certificates.specs.declared.Certificate.{Certificate}
+use Rattle.certificates.specs.declared.Subject.{Subject}
+use Rattle.certificates.specs.declared.access.Access.{Access}
 use Rattle.certificates.specs.declared.Statement.{Statement}
 use Rattle.certificates.specs.declared.Statement.TheVariants.{Name, Rights}
 use Rattle.finding.specs.Finding.{find_sheet}
@@ -14,6 +16,10 @@ use Rattle.finding_turns.specs.Ways.{meant_by}
 use Rattle.wire.specs.Numbers.{places}
 use Rattle.wire.specs.declared.faults.Fault.{Fault}
 use Rattle.wire.specs.declared.faults.Fault.TheVariants.{NotValid, IssuerNotShown, StepNotShown, HouseNotShown}
+
+-- right 3 of house 1, on a day
+abbrev pub right_3_on : ℕ → Access
+right_3_on day = record { day = day; owner = 1; right = 3 }
 
 -- what is given and asked, and what comes of it
 pub record Row : Type 0 where
@@ -33,17 +39,17 @@ pub record Row : Type 0 where
   pub tried : List Line
   pub checked : Result (Unit {0}) Fault
 
--- a house of eight followed by names, valid to a last day
-abbrev stated : ℕ → Statement → ℕ → ℕ → List ℕ → Certificate
-stated issuer statement last house names =
-    record { issuer = issuer; subject = record { house = house; names = places names; count = length names }; first = 0; last = last; statement = statement }
+-- what is said of a house of eight followed by names, valid to a last day
+abbrev stated : ℕ → (Subject → Statement) → ℕ → ℕ → List ℕ → Certificate
+stated issuer says last house names =
+    record { issuer = issuer; first = 0; last = last; statement = says (record { house = house; names = places names; count = length names }) }
 
 abbrev names : ℕ → ℕ → ℕ → List ℕ → Certificate
-names issuer name house chain = stated issuer (Name name) 99 house chain
+names issuer name house chain = stated issuer (λ who. Name who name) 99 house chain
 
 -- a certificate that gives right 3, and says whether it may be passed on
 abbrev gives : Bool → ℕ → ℕ → ℕ → List ℕ → Certificate
-gives delegable issuer last house chain = stated issuer (Rights 8 delegable) last house chain
+gives delegable issuer last house chain = stated issuer (λ who. Rights who 8 delegable) last house chain
 
 abbrev line : ℕ → List ℕ → Line
 line certificate houses = record { certificate = certificate; houses = houses }
@@ -204,12 +210,12 @@ table = by_name ∷ (ring ∷ (ring_with_exit ∷ (doubled ∷ (had_only ∷ (no
 
 -- the row is what the definitions give, with eight houses
 pub record ComesTrue (r : Row) : Type 0 where
-  pub rounds_are : length (rounds 8 r.certificates r.day 3 1) ≡ r.many
-  pub lines_are : written 8 r.certificates r.day 3 1 ≡ r.lines
-  pub names_are : meant_by 8 (shown_at_end 8 r.certificates r.day 3 1) 1 r.name ≡ r.means
-  pub sheet_is : find_sheet 8 r.certificates r.day 3 1 r.house ≡ r.sheet
-  pub may_is : Decides (is_some r.sheet) (May r.certificates r.day 3 1 r.house)
-  pub check_is : (check_sheet r.certificates r.day 3 1 r.house (length r.tried) (bytes_of_sheet r.tried)).1 ≡ r.checked
+  pub rounds_are : length (rounds 8 r.certificates (right_3_on r.day)) ≡ r.many
+  pub lines_are : written 8 r.certificates (right_3_on r.day) ≡ r.lines
+  pub names_are : meant_by 8 (shown_at_end 8 r.certificates (right_3_on r.day)) 1 r.name ≡ r.means
+  pub sheet_is : find_sheet 8 r.certificates (right_3_on r.day) r.house ≡ r.sheet
+  pub may_is : Decides (is_some r.sheet) (May r.certificates (right_3_on r.day) r.house)
+  pub check_is : (check_sheet r.certificates (right_3_on r.day) r.house (length r.tried) (bytes_of_sheet r.tried)).1 ≡ r.checked
 
 abbrev pub AllComeTrue : Type 0
 AllComeTrue = AllByRecursion ComesTrue table

@@ -1,9 +1,10 @@
 -- What a request without lines is told: the request with its sheet, or whether the house may, and to which day. Assumes nothing.
+use Rattle.certificates.specs.Access.{on_day}
 use Rattle.std.specs.Prelude.{◌≡◌, ℕ, ◌⊎◌, Bool, true, false, cond, ◌&&◌, List, [], ◌∷◌, length, Some, None, Ok, Err, vec_items, Vec, Option, option_map, Result, ◌^◌, ◌<◌, ◌≤◌, ◌==◌, nat_le}
 use Rattle.certificates.specs.Meaning.{May}
 use Rattle.certificates.specs.declared.Certificate.{Certificate}
-use Rattle.finding.specs.Asking.{head_of, sheet_for, MemoryFilled, Untouched, Unsought}
-use Rattle.promise.specs.Requests.{question_of, receive}
+use Rattle.finding.specs.Asking.{sheet_for, MemoryFilled, Untouched, Unsought}
+use Rattle.promise.specs.Requests.{take_head, question_of, receive}
 use Rattle.finding.specs.Worth.{Allowed, gate_of, last_day}
 use Rattle.finding.specs.declared.sheets_found.Unfound.{Unfound}
 use Rattle.finding.specs.declared.sheets_found.Unfound.TheVariants.{NoSheet, TooShort, Malformed, OutOfRange, NoMemory, WrongSize}
@@ -29,7 +30,7 @@ module _ (cs : List Certificate) (q : Question) where
   -- the house may on all days from the question's to this one; without one it may not on the question's. Days end before 2 ^ 32
   abbrev pub MayTo : Option ℕ → Type 0
   MayTo None = Allowed cs q → ⊥
-  MayTo (Some last) = (q.day < 2 ^ 32 → q.day ≤ last) × ((day : ℕ) → q.day ≤ day → day ≤ last → May cs day q.right q.owner q.house)
+  MayTo (Some last) = (q.access.day < 2 ^ 32 → q.access.day ≤ last) × ((day : ℕ) → q.access.day ≤ day → day ≤ last → May cs (on_day day q.access) q.house)
 
   -- To which day the sheet holds that is found; where it isn't told there is a reason, and lent memory is as it was.
   abbrev pub UntilTold : List ℕ → List ℕ → List ℕ → List ℕ → Result (Option ℕ) Unfound → Type 0
@@ -49,13 +50,13 @@ looked_at None = Err Malformed
 looked_at (Some p) = without_lines p.0 p.1
 
 abbrev pub bare_head : List ℕ → Result Head Unfound
-bare_head request = looked_at (head_of request)
+bare_head request = looked_at (take_head request)
 
 -- the request with its sheet, where the house may
 pub record Sheeted (cs : List Certificate) (q : Question) (whole : List ℕ) : Type 0 where
   pub lines : List Line
   pub found : sheet_for cs q ≡ Some lines
-  pub whole_is : whole ≡ request_bytes q.house q.right lines
+  pub whole_is : whole ≡ request_bytes q.house q.access.right lines
 
 module _ (cs : List Certificate) (q : Question) where
   -- what is answered to a request without lines

@@ -1,12 +1,13 @@
 -- What the answers of finding are worth: by the meaning of the certificates, and at a gate. Assumes nothing.
+use Rattle.certificates.specs.Access.{on_day}
 use Rattle.std.specs.Prelude.{◌≡◌, ℕ, ◌*◌, ◌^◌, ◌<◌, ◌≤◌, true, List, [], ◌∷◌, length, take, min, Some, None, Ok, Err, Option, Result, is_some, vec_items}
 use Rattle.certificates.specs.Certificates.{WellFormed}
 use Rattle.certificates.specs.Meaning.{May}
 use Rattle.certificates.specs.declared.Certificate.{Certificate}
-use Rattle.finding.specs.Asking.{head_of, sheet_for, kept_by, lines_of_kept, MemoryFilled, Unsought}
+use Rattle.finding.specs.Asking.{sheet_for, kept_by, lines_of_kept, MemoryFilled, Unsought}
 use Rattle.finding.specs.Wanted.{line_of_wanted}
 use Rattle.finding.specs.declared.kept_lines.KeptLines.{KeptLines}
-use Rattle.promise.specs.Requests.{question_of, receive}
+use Rattle.promise.specs.Requests.{take_head, receive}
 use Rattle.finding.specs.declared.sheets_found.Unfound.{Unfound}
 use Rattle.finding.specs.declared.sheets_found.Unfound.TheVariants.{NoSheet, TooShort, Malformed, OutOfRange, NoMemory, WrongSize}
 use Rattle.finding.specs.declared.wanted.Wanted.{Wanted}
@@ -21,7 +22,6 @@ use Rattle.sheets.specs.declared.checking.Question.{Question}
 use Rattle.std.specs.Bool.{Decides}
 use Rattle.std.specs.List.{AllByRecursion}
 use Rattle.finding_turns.specs.Found.{lines_found}
-use Rattle.wire.specs.Numbers.{Taken}
 use Rattle.wire.specs.declared.faults.Fault.{Fault}
 use Rattle.wire.specs.declared.faults.Fault.TheVariants as faults
 
@@ -42,27 +42,27 @@ last_day cs (l ∷ lines) = min (certificate_at cs l.certificate).last (last_day
 module _ (cs : List Certificate) (q : Question) where
   -- the house may
   abbrev pub Allowed : Type 0
-  Allowed = May cs q.day q.right q.owner q.house
+  Allowed = May cs q.access q.house
 
   -- the owner's gate on that day with these certificates, if they were read from bytes
   abbrev pub gate_of : State
-  gate_of = record { owner = q.owner; day = q.day; certificates = cs }
+  gate_of = record { owner = q.access.owner; day = q.access.day; certificates = cs }
 
   -- a request with these lines opens that gate
   abbrev pub OpenedBy : List Line → Type 0
-  OpenedBy lines = AllByRecursion WellFormed cs → (receive gate_of (request_bytes q.house q.right lines)).1 ≡ Open ∷ []
+  OpenedBy lines = AllByRecursion WellFormed cs → (receive gate_of (request_bytes q.house q.access.right lines)).1 ≡ Open ∷ []
 
   -- the house may on the question's day, and on all days from there to the last on which the lines' certificates are valid
   abbrev pub LastsBy : List Line → Type 0
-  LastsBy lines = (q.day < 2 ^ 32 → q.day ≤ last_day cs lines) × ((day : ℕ) → q.day ≤ day → day ≤ last_day cs lines → May cs day q.right q.owner q.house)
+  LastsBy lines = (q.access.day < 2 ^ 32 → q.access.day ≤ last_day cs lines) × ((day : ℕ) → q.access.day ≤ day → day ≤ last_day cs lines → May cs (on_day day q.access) q.house)
 
   -- The lines on which what is wanted rests are the sheet's, open the gate, and hold as long as their certificates; where nothing is wanted there is no sheet.
   abbrev pub SheetBy : Lines → List ℕ → Option Wanted → Type 0
   SheetBy lines numbers None = sheet_for cs q ≡ None
   SheetBy lines numbers (Some w) =
-      (sheet_for cs q ≡ Some (kept_by cs q.owner (lines_found cs (vec_items lines.found)) (line_of_wanted w) numbers (vec_items lines.right_lines)))
-      × OpenedBy (kept_by cs q.owner (lines_found cs (vec_items lines.found)) (line_of_wanted w) numbers (vec_items lines.right_lines))
-      × LastsBy (kept_by cs q.owner (lines_found cs (vec_items lines.found)) (line_of_wanted w) numbers (vec_items lines.right_lines))
+      (sheet_for cs q ≡ Some (kept_by cs q.access.owner (lines_found cs (vec_items lines.found)) (line_of_wanted w) numbers (vec_items lines.right_lines)))
+      × OpenedBy (kept_by cs q.access.owner (lines_found cs (vec_items lines.found)) (line_of_wanted w) numbers (vec_items lines.right_lines))
+      × LastsBy (kept_by cs q.access.owner (lines_found cs (vec_items lines.found)) (line_of_wanted w) numbers (vec_items lines.right_lines))
 
   -- All lines were found, no more than there can be, and what is wanted, exactly where the house may; or there is a reason why not, and memory is as it was.
   abbrev pub WantedFound : List ℕ → List ℕ → List ℕ → List ℕ → Result (Lines × Option Wanted) Unfound → Type 0
@@ -84,7 +84,7 @@ module _ (cs : List Certificate) (q : Question) where
   pub record Opens : Type 0 where
     pub lines : List Line
     pub found : sheet_for cs q ≡ Some lines
-    pub opens : AllByRecursion WellFormed cs → (receive gate_of (request_bytes q.house q.right lines)).1 ≡ Open ∷ []
+    pub opens : AllByRecursion WellFormed cs → (receive gate_of (request_bytes q.house q.access.right lines)).1 ≡ Open ∷ []
 
   -- what was written of the request opens that gate, and nothing behind it is needed
   abbrev pub WrittenOpens : List ℕ → Result ℕ Unfound → Type 0
@@ -93,7 +93,7 @@ module _ (cs : List Certificate) (q : Question) where
 
   -- so it is where the head asks what the question asks
   abbrev pub OpensAsked : List ℕ → List ℕ → Result ℕ Unfound → Type 0
-  OpensAsked request request' r = Bytes request → (h : Head) (rest : List ℕ) → head_of request ≡ Some (h, rest) → h.house ≡ q.house → h.right ≡ q.right → WrittenOpens request' r
+  OpensAsked request request' r = Bytes request → (h : Head) (rest : List ℕ) → take_head request ≡ Some (h, rest) → h.house ≡ q.house → h.right ≡ q.access.right → WrittenOpens request' r
 
   -- A sheet is written only for a house that may, and opens the gate; without one the house may not.
   abbrev pub Worth : Result ℕ Unfound → Type 0

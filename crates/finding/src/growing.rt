@@ -6,20 +6,21 @@ ghost use Rattle.promise.specs.Promise.{Bytes};
 ghost use Rattle.registry.specs.Numbered.{certificates_of};
 
 use crate::searching::{find_kept, find_wanted};
-use crate::sheets_found::{Unfound, asked};
+use crate::sheets_found::Unfound;
 use certificates::LAST_HOUSE;
 use certificates::rights::LAST_RIGHT;
-use promise::heads::Head;
+use promise::heads::{Head, read_head};
 use registry::Registry;
 use sheets::checking::Question;
 use std::alloc::Global;
 
 // The head of a request without lines; else why it is refused.
+#[tactic(auto, using(wire::proofs::Exact::bytes_of_slice))]
 pub fn bare_head(request: &[u8]) -> Result<Head, Unfound>
     ensures value { result ≡ bare_head request.now }
     ensures small { Bytes request.now }
 {
-    let Some((head, rest)) = asked(request) else {
+    let Some((head, rest)) = read_head(request) else {
         return Err(Unfound::Malformed);
     };
     if head.house > LAST_HOUSE || head.right > LAST_RIGHT {

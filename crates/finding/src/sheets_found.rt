@@ -1,21 +1,15 @@
 // A sheet is found for a question, and written into the free end of a request.
-// The lent slices go side by side, and a reader's answer is taken apart by `let .. else`: rules of the project.
+// The lent slices go side by side, a rule of the project.
 ghost use Rattle.std.specs.Prelude.{◌≡◌};
-ghost use Rattle.finding.specs.Asking.{Answered, head_of};
+ghost use Rattle.finding.specs.Asking.{Answered};
 ghost use Rattle.finding.specs.Worth.{Worth, OpensAsked, fault_of};
-ghost use Rattle.promise.specs.Promise.{Bytes};
 ghost use Rattle.registry.specs.Numbered.{certificates_of};
-ghost use Rattle.wire.specs.Numbers.{split};
 
 use crate::searching::find_kept;
-use promise::heads::{Head, REQUEST, read_head};
 use registry::Registry;
 use sheets::checking::Question;
 use std::alloc::Global;
 use wire::faults::Fault;
-
-// The bytes of a request before its lines.
-pub const HEAD: usize = 8;
 
 // Why no sheet was written.
 #[derive(Clone, Copy, Debug, PartialEq, Eq)]
@@ -54,18 +48,6 @@ pub fn find(
     }
     kept.write(registry, request);
     Ok(needed)
-}
-
-// The head of a request; none where it is no request, or its head is cut.
-#[tactic(auto, using(wire::proofs::Exact::bytes_of_slice))]
-pub(crate) fn asked(request: &[u8]) -> Option<(Head, &[u8])>
-    ensures value { split result ≡ head_of request.now }
-    ensures small { Bytes request.now }
-{
-    let [REQUEST, ..] = request else {
-        return None;
-    };
-    read_head(request)
 }
 
 impl Unfound {

@@ -36,7 +36,7 @@ pub(crate) fn wanted_line(question: &Question, lines: &Lines) -> Option<Wanted>
     let house = question.house;
     let right_lines = lines.right_lines.as_slice();
     if is_shown(&lines.rights, DELEGATORS, house) {
-        if house == question.owner {
+        if house == question.access.owner {
             return Some(Wanted::AtStart);
         }
         return Some(Wanted::ByLine(number_at(right_lines, DELEGATORS, house)));

@@ -10,8 +10,8 @@ ghost use Rattle.std.specs.Prelude.{◌≡◌, ◌≤◌, List, ◌++◌, length
 ghost use Rattle.wire.specs.Numbers.{bytes};
 
 use crate::kept_lines::KeptLines;
-use crate::sheets_found::HEAD;
 use finding_bytes::{marked_bytes, marked_lines, write_marked};
+use promise::heads::HEAD;
 use registry::Registry;
 use std::alloc::{AllocError, Global};
 
@@ -20,7 +20,7 @@ fn write_count(request: &mut [u8], count: u32)
     requires { 8 ≤ length request.old }
     ensures { request.new ≡ take 4 request.old ++ (bytes 4 count ++ drop 8 request.old) }
 {
-    // Not one with write_u16 of sheet_bytes: both know that there is room; a public function requires nothing, so one for both would have to test for it.
+    // Not one with `write_u16` of finding_bytes: both know that there is room; a public function requires nothing, so one for both would have to test for it.
     request[4..HEAD].copy_from_slice(&count.to_be_bytes());
 }
 

@@ -1,4 +1,5 @@
 -- How many lines are marked, and how many bytes lines take. Assumes nothing.
+use Rattle.certificates.specs.Certificates.{subject_of}
 use Rattle.std.proofs.Common.{◌≡◌, ℕ, ◌+◌, ◌*◌, ◌≤◌, Bool, true, false, cond, List, [], ◌∷◌, length, take, sym, refl, ap, ◌∙◌, arith}
 use Rattle.certificates.specs.declared.Certificate.{Certificate}
 use Rattle.finding_keeping.specs.Marks.{picked}
@@ -31,11 +32,11 @@ two_bytes n = refl
 module _ (cs : List Certificate) where
   -- a certificate that is not there has no names
   pub no_steps : (f : Found) → length cs ≤ f.certificate → [] ≡ (line_of cs f).houses
-  no_steps f past = ap (λ (c : Certificate). take c.subject.count f.steps.numbers) (sym (get_or_past cs f.certificate never past))
+  no_steps f past = ap (λ (c : Certificate). take (subject_of c.statement).count f.steps.numbers) (sym (get_or_past cs f.certificate never past))
 
   -- as many of the steps count as the subject has names
-  pub front_steps : (f : Found) (c : Certificate) → c ≡ certificate_at cs f.certificate → take c.subject.count f.steps.numbers ≡ (line_of cs f).houses
-  front_steps f c is = ap (λ (d : Certificate). take d.subject.count f.steps.numbers) is
+  pub front_steps : (f : Found) (c : Certificate) → c ≡ certificate_at cs f.certificate → take (subject_of c.statement).count f.steps.numbers ≡ (line_of cs f).houses
+  front_steps f c is = ap (λ (d : Certificate). take (subject_of d.statement).count f.steps.numbers) is
 
   -- a line's bytes, where these are its steps
   pub line_length : (f : Found) (steps : List ℕ) → steps ≡ (line_of cs f).houses → 2 + 2 * length steps ≡ length (line_bytes (line_of cs f))

@@ -36,7 +36,7 @@ fn steps_of<'a>(registry: &Registry, line: &'a Found) -> &'a [u16]
     ensures few { length result.now ≤ 6 }
 {
     match registry.get(line.certificate) {
-        Some(certificate) => line.steps.front(certificate.subject.count),
+        Some(certificate) => line.steps.front(certificate.statement.subject().count),
         None => &[],
     }
 }

@@ -1,1 +1,2 @@
+pub mod FirstRead
 pub mod Keeping

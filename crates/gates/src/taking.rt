@@ -1,10 +1,11 @@
 // What a gate does on each event. A gate goes through by value, a rule of the project: each method gives back the gate after it.
-ghost use Rattle.std.specs.Prelude.{◌≡◌, ◌<◌, ◌≤◌, length, if◌then◌else◌, MatchResult, nat_le};
+ghost use Rattle.std.specs.Prelude.{◌≡◌, ◌<◌, ◌≤◌, length, if◌then◌else◌, IfOk, IfSome, MatchResult, nat_le};
 ghost use Rattle.certificates.specs.Certificates.{WellFormed};
-ghost use Rattle.gates.specs.Gates.{state_of};
+ghost use Rattle.gates.specs.Gates.{state_of, first_read};
 ghost use Rattle.gates.specs.declared.troubles.Trouble.TheVariants.{NoMemory, UnknownHouse};
-ghost use Rattle.promise.specs.States.{fresh_gate, issue, revoke, day_passed, take, first_taken};
+ghost use Rattle.promise.specs.States.{fresh_gate, issue, revoke, day_passed, take, take_read};
 ghost use Rattle.wire.specs.Exact.{Writable};
+ghost use Rattle.wire.specs.Numbers.{split};
 ghost use Rattle.wire.specs.Reading.{event_read};
 
 use crate::Gate;
@@ -72,18 +73,29 @@ impl Gate {
         }
     }
 
-    // Takes the first event of some bytes: the gate after it, the fault where it is refused, and what is read on.
-    #[tactic(auto, using(crate::proofs::Keeping::read_writable, crate::proofs::Keeping::read_shorter, crate::proofs::Keeping::refused_shorter))]
-    pub fn take_first(self, bytes: &[u8]) -> (Gate, Option<Fault>, &[u8])
-        ensures value { ((state_of result.0, result.1), result.2.now) ≡ first_taken (state_of self) (event_read bytes.now) }
-        ensures shorter { 0 < length bytes.now → length result.2.now < length bytes.now }
+    // What the gate is after what was read: an event, or the fault of one that is refused.
+    fn take_read(self, read: Result<Event, Fault>) -> (Gate, Option<Fault>)
+        requires { IfOk read Writable }
+        ensures { (state_of result.0, result.1) ≡ take_read (state_of self) read }
     {
-        match read_event(bytes) {
-            Ok((event, rest)) => {
-                let (gate, fault) = self.take(event);
-                (gate, fault, rest)
-            }
-            Err(refusal) => (self, Some(refusal.fault), refusal.rest),
+        match read {
+            Ok(event) => self.take(event),
+            Err(fault) => (self, Some(fault)),
         }
+    }
+
+    // Takes the first event of some bytes: the gate after it, the fault where it is refused, and what follows it.
+    // None where nothing can be read; the gate is as it was then.
+    #[tactic(auto, using(promise::proofs::Shorter::read_writable, promise::proofs::Shorter::shorter))]
+    pub fn take_first(self, bytes: &[u8]) -> (Gate, Option<(Option<Fault>, &[u8])>)
+        ensures value { (state_of result.0, split result.1) ≡ first_read (state_of self) (event_read bytes.now) }
+        ensures shorter { IfSome result.1 (λ p. length p.1.now < length bytes.now) }
+    {
+        // A reader's answer is taken apart by `let .. else`, a rule of the project.
+        let Some((read, rest)) = read_event(bytes) else {
+            return (self, None);
+        };
+        let (gate, fault) = self.take_read(read);
+        (gate, Some((fault, rest)))
     }
 }

@@ -2,7 +2,7 @@
 use Rattle.std.specs.Prelude.{◌≡◌, ℕ, ◌<◌, true, List, ◌∷◌, ◌++◌, map, length, vec_items, Vec}
 use Rattle.gates.specs.declared.troubles.Trouble.{Trouble}
 use Rattle.gates.specs.declared.troubles.Trouble.TheVariants.{UnknownHouse, NoMemory, ShortMemory}
-use Rattle.promise.specs.Promise.{is_request}
+use Rattle.promise.specs.Happened.{is_request}
 use Rattle.promise.specs.Requests.{left_by_all}
 use Rattle.promise.specs.States.{State}
 use Rattle.std.specs.declared.alloc.Global.{Global}

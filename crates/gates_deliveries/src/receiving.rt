@@ -12,11 +12,11 @@ ghost use Rattle.std.specs.Option.{option_to_list};
 use gates::Gate;
 use gates::troubles::Trouble;
 use promise::answers::Answer;
-use promise::heads::REQUEST;
+use promise::heads::is_request;
 use std::alloc::Global;
 use wire::faults::Fault;
 
-// Adds the answer to an event, where it is refused. Unlike `note_within` of pieces it may allocate.
+// Adds the answer to an event, where it is refused. Unlike `note_within` of gates_pieces it may allocate.
 fn note(fault: Option<Fault>, answers: &mut Vec<Answer>) -> Result<(), Trouble>
     ensures { MatchResult result (λ _. answers.new.items ≡ answers.old.items ++ map Refused (option_to_list fault)) (λ t. t ≡ NoMemory) }
 {
@@ -33,10 +33,14 @@ fn take_all(gate: Gate, bytes: &[u8], answers: &mut Vec<Answer>) -> Result<Gate,
     let mut gate = gate;
     let mut rest = bytes;
     while !rest.is_empty() {
-        let (next, fault, behind) = gate.take_first(rest);
+        let (next, taken) = gate.take_first(rest);
         gate = next;
-        rest = behind;
+        let Some((fault, behind)) = taken else {
+            note(Some(Fault::Malformed), answers)?;
+            return Ok(gate);
+        };
         note(fault, answers)?;
+        rest = behind;
     }
     Ok(gate)
 }
@@ -56,9 +60,9 @@ fn take_request(
     Ok(())
 }
 
-// Takes a delivery, which is a request if its first byte is 4, and adds its answers in their order.
+// Takes a delivery, which is a request or holds events, and adds its answers in their order.
 // That it is a list of bytes is what the promise asks of it.
-#[tactic(auto, using(wire::proofs::Exact::bytes_of_slice, crate::proofs::Kept::untaken_request, crate::proofs::Kept::untaken_events))]
+#[tactic(auto, using(wire::proofs::Exact::bytes_of_slice, crate::proofs::Kept::untaken_request, crate::proofs::Kept::untaken_events, crate::proofs::Kept::nothing_received))]
 fn take_delivery(
     gate: Gate,
     bytes: &[u8],
@@ -69,14 +73,15 @@ fn take_delivery(
     ensures memory { MatchResult result (λ _. memory.new ≡ left_by_delivery (state_of gate) bytes.now memory.old) (λ _. memory.new ≡ memory.old) }
     ensures bytes { Bytes bytes.now }
 {
-    match bytes {
-        [] => Ok(gate),
-        [REQUEST, ..] => {
-            take_request(&gate, bytes, memory, answers)?;
-            Ok(gate)
-        }
-        [..] => take_all(gate, bytes, answers),
+    if is_request(bytes) {
+        take_request(&gate, bytes, memory, answers)?;
+        return Ok(gate);
     }
+    // an empty one asks for no memory
+    if bytes.is_empty() {
+        return Ok(gate);
+    }
+    take_all(gate, bytes, answers)
 }
 
 // Takes some deliveries, one after the other: the gate after them, and all answers in their order.

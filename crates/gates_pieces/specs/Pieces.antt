@@ -1,11 +1,11 @@
 -- A delivery of events that is taken in pieces. Assumes nothing.
-use Rattle.std.specs.Prelude.{◌≡◌, ℕ, ◌<◌, ◌≤◌, Bool, true, false, not, ◌&&◌, ◌||◌, ◌⊎◌, List, [], ◌∷◌, ◌++◌, length, Some, None, Option, ◌==◌, nat_le}
+use Rattle.std.specs.Prelude.{◌≡◌, ℕ, ◌≤◌, Bool, true, false, not, ◌&&◌, ◌||◌, ◌⊎◌, List, [], ◌∷◌, ◌++◌, length, Some, None, Option, ◌==◌}
 use Rattle.promise.specs.States.{State, deliver}
-use Rattle.promise.specs.Promise.{Bytes, is_request}
+use Rattle.promise.specs.Happened.{is_request}
+use Rattle.promise.specs.Promise.{Bytes}
 use Rattle.promise.specs.Requests.{told, run}
 use Rattle.promise.specs.declared.answers.Answer.{Answer}
-use Rattle.wire.specs.Enough.{stops}
-use Rattle.wire.specs.declared.faults.Fault.{Fault}
+use Rattle.wire.specs.Settled.{settles}
 
 -- the rest of a delivery: nothing more of it is read, or what is left of a piece stands before what follows
 abbrev pub gone_on : State → List Answer → Option (List ℕ) → List ℕ → State × List Answer
@@ -17,19 +17,9 @@ abbrev pub PieceTaken : State → List Answer → List ℕ → Bool → State �
 PieceTaken g answers piece last g' answers' rest =
     (more : List ℕ) → Bytes more → (last ≡ true → more ≡ []) → told answers (deliver g (piece ++ more)) ≡ gone_on g' answers' rest more
 
--- nothing more is read behind the event
-abbrev pub stopped : Option Fault → Bool
-stopped None = false
-stopped (Some fault) = stops fault
-
--- an event can be read whatever follows the bytes: there are some, and enough for the longest event, or nothing follows
-pub record Ready (rest : List ℕ) (last : Bool) : Type 0 where
-  pub some : 0 < length rest
-  pub long : (533 ≤ length rest) ⊎ (last ≡ true)
-
--- the test of that
+-- some bytes are left, and they settle which event stands first, or nothing follows them
 abbrev pub is_ready : List ℕ → Bool → Bool
-is_ready rest last = not (length rest == 0) && (last || nat_le 533 (length rest))
+is_ready rest last = not (length rest == 0) && (last || settles rest)
 
 -- a piece is left only where there is no room for another answer, or where no event can be read for certain
 abbrev pub LeftOver : ℕ → ℕ → Bool → Option (List ℕ) → Type 0

@@ -1,44 +1,39 @@
 // Deliveries of events taken in pieces, so that memory is bounded whatever comes.
 #![tactic(auto)]
 
-ghost use Rattle.std.specs.Prelude.{◌≡◌, ◌+◌, ◌<◌, ◌≤◌, true, ◌++◌, map, length, vec_len, vec_capacity};
+ghost use Rattle.std.specs.Prelude.{◌≡◌, ◌+◌, ◌<◌, ◌≤◌, ◌||◌, ◌++◌, map, length, nat_le, vec_len, vec_capacity};
 ghost use Rattle.gates.specs.Gates.{state_of};
-ghost use Rattle.gates_pieces.specs.Pieces.{PieceTaken, Ready, is_ready, LeftOver, left_length, StandsLast, stopped, KeptPiece};
+ghost use Rattle.gates_pieces.specs.Pieces.{PieceTaken, LeftOver, left_length, StandsLast, KeptPiece};
 ghost use Rattle.promise.specs.declared.answers.Answer.TheVariants.{Refused};
 ghost use Rattle.std.specs.Option.{option_map, option_to_list};
+ghost use Rattle.wire.specs.Settled.{longest_event};
 
 use gates::Gate;
 use promise::answers::Answer;
 use wire::faults::Fault;
+use wire::reading::LONGEST_EVENT;
 
 pub mod laws;
 
-// The longest event: a certificate with 255 names.
-pub const LONGEST_EVENT: usize = 533;
-
-// Whether an event can be read whatever follows: the longest would fit, or nothing follows.
-fn ready(rest: &[u8], last: bool) -> bool
-    ensures value { result ≡ is_ready rest.now last }
-    ensures settled { result ≡ true → Ready rest.now last }
+// Whether what can't be read never can: nothing follows, or there are as many bytes as the longest event has.
+fn is_settled(rest: &[u8], last: bool) -> bool
+    ensures { result ≡ (last || nat_le longest_event (length rest.now)) }
 {
-    !rest.is_empty() && (last || rest.len() >= LONGEST_EVENT)
+    last || rest.len() >= LONGEST_EVENT
 }
 
-// Adds the answer to an event, where it is refused, in room that is reserved; says whether nothing more of the delivery is read.
-fn note_within(fault: Option<Fault>, answers: &mut Vec<Answer>) -> bool
+// Adds the answer to an event, where it is refused, in room that is reserved.
+fn note_within(fault: Option<Fault>, answers: &mut Vec<Answer>)
     requires { vec_len answers.old < vec_capacity answers.old }
-    ensures value { result ≡ stopped fault }
     ensures items { answers.new.items ≡ answers.old.items ++ map Refused (option_to_list fault) }
     ensures room { vec_capacity answers.new ≡ vec_capacity answers.old }
 {
-    let Some(fault) = fault else {
-        return false;
-    };
-    answers.push_reserved(Answer::Refused(fault));
-    matches!(fault, Fault::Malformed)
+    if let Some(fault) = fault {
+        answers.push_reserved(Answer::Refused(fault));
+    }
 }
 
-// Takes events of a piece of a delivery, as long as there is room for their answers and what is left is enough for any event,
+// Takes events of a piece of a delivery, as long as there is room for their answers and what is left settles which event stands first,
 // or to the end if nothing follows the piece. Gives what is left; `None` where nothing more of the delivery is read.
 pub fn take_piece<'a>(
     gate: Gate,
@@ -55,13 +50,18 @@ pub fn take_piece<'a>(
 {
     let mut gate = gate;
     let mut rest = piece;
-    while answers.len() < answers.capacity() && ready(rest, last) {
-        let (next, fault, behind) = gate.take_first(rest);
+    while answers.len() < answers.capacity() && !rest.is_empty() {
+        let (next, taken) = gate.take_first(rest);
         gate = next;
-        rest = behind;
-        if note_within(fault, answers) {
+        let Some((fault, behind)) = taken else {
+            if !is_settled(rest, last) {
+                return (gate, Some(rest));
+            }
+            note_within(Some(Fault::Malformed), answers);
             return (gate, None);
-        }
+        };
+        note_within(fault, answers);
+        rest = behind;
     }
     (gate, Some(rest))
 }

@@ -1,7 +1,8 @@
 -- The days on which a house may, after the deliveries by which a gate came about. Assumes nothing.
+use Rattle.certificates.specs.Access.{on_day}
 use Rattle.std.proofs.Common.{ℕ, ◌↔◌, List, Ok, Err, vec_items, Vec, Result, subst}
 use Rattle.certificates.specs.Meaning.{May}
-use Rattle.promise.specs.Requests.{question_of, run}
+use Rattle.promise.specs.Requests.{asked, question_of, run}
 use Rattle.finding.specs.declared.sheets_found.Unfound.{Unfound}
 use Rattle.inquiries.specs.Days.{MayOn, SpansTold, DaysTold, DaysAfter, DaysKept}
 use Rattle.inquiries.specs.Spans.{SpansOf}
@@ -25,8 +26,8 @@ days_here : (owner : ℕ) (ds : List (List ℕ)) → AllByRecursion Bytes ds →
     SpansTold (run owner ds).certificates (question_of (run owner ds).day owner h) names numbers r → DaysAfter owner ds h r
 days_here owner ds small h names numbers (Ok spans) told =
     let cs = (run owner ds).certificates in
-    spans_as (MayOn cs (question_of (run owner ds).day owner h)) (λ day. May (standing (happened ds)) day h.right owner h.house) (vec_items spans)
-    (λ day. (ran owner ds small).same_may day h.right h.house) told
+    spans_as (MayOn cs (question_of (run owner ds).day owner h)) (λ day. May (standing (happened ds)) (on_day day (asked owner h)) h.house) (vec_items spans)
+    (λ day. (ran owner ds small).same_may (on_day day (asked owner h)) h.house) told
 days_here owner ds small h names numbers (Err e) told = tt
 
 pub days_kept : (g : State) (asked : Result Head Unfound) (names numbers : List ℕ) (r : Result (Vec Span Global) Unfound) → DaysTold g names numbers r asked → DaysKept g asked r

@@ -1,13 +1,16 @@
 -- What a sheet that is found, or that there is none, means after the deliveries by which a gate came about. Assumes nothing.
+use Rattle.certificates.specs.Meaning.{May}
+use Rattle.certificates.specs.Access.{on_day}
+use Rattle.certificates.specs.declared.access.Access.{Access}
 use Rattle.std.proofs.Common.{◌≡◌, ℕ, ◌<◌, List, Some, Ok, Err, Vec, Result, sym, ap, ◌∙◌, subst}
-use Rattle.promise.specs.Requests.{question_of, run}
+use Rattle.promise.specs.Requests.{asked, question_of, run}
 use Rattle.finding.specs.Growing.{SheetWorth, HeadTold}
 use Rattle.finding.specs.Worth.{Allowed}
 use Rattle.finding.specs.declared.sheets_found.Unfound.{Unfound}
 use Rattle.finding.specs.declared.sheets_found.Unfound.TheVariants.{NoSheet, TooShort, Malformed, OutOfRange, NoMemory, WrongSize}
 use Rattle.inquiries.specs.Sheets.{ShutOut, Promised, SheetKept}
 use Rattle.promise.proofs.Promised.{main}
-use Rattle.promise.proofs.Ran.{Ran, ran}
+use Rattle.promise.proofs.Ran.{Ran, asked_here, ran}
 use Rattle.promise.specs.Happened.{happened, today}
 use Rattle.promise.specs.Promise.{Bytes, MayAfter}
 use Rattle.promise.specs.States.{State}
@@ -26,11 +29,14 @@ module _ (owner : ℕ) (ds : List (List ℕ)) (small : AllByRecursion Bytes ds) 
   r : Ran owner ds here
   r = ran owner ds small
 
-  may_after : AllowedHere → MayAfter ds h.right owner h.house
-  may_after may = (r.same_may (today (happened ds)) h.right h.house).0 (rw (r.same_owner, r.is_today) at may)
+  abbrev then : Access
+  then = on_day (today (happened ds)) (asked owner h)
 
-  may_here : MayAfter ds h.right owner h.house → AllowedHere
-  may_here may = rw (r.same_owner, r.is_today) ((r.same_may (today (happened ds)) h.right h.house).1 may)
+  may_after : AllowedHere → MayAfter ds (asked owner h) h.house
+  may_after may = (r.same_may then h.house).0 (subst (λ (a : Access). May here.certificates a h.house) (asked_here r h.right) may)
+
+  may_here : MayAfter ds (asked owner h) h.house → AllowedHere
+  may_here may = subst (λ (a : Access). May here.certificates a h.house) (sym (asked_here r h.right)) ((r.same_may then h.house).1 may)
 
   shut_out : owner < 1024 → (AllowedHere → ⊥) → ShutOut owner ds h
   shut_out known none = record {

@@ -1,4 +1,5 @@
 -- Stretches of days in which a house may as on the first of them, or may not. Assumes nothing.
+use Rattle.certificates.specs.Access.{on_day}
 use Rattle.std.proofs.Common.{◌≡◌, ℕ, ◌+◌, ◌^◌, ◌<◌, ◌≤◌, Bool, true, false, ◌↔◌, inl, inr, List, [], length, Some, None, Ok, Err, Option, is_some, vec_items, sym, refl, subst, arith}
 use Rattle.certificates.proofs.Meaning.{Carries, has_carries}
 use Rattle.certificates.specs.Certificates.{Valid, valid}
@@ -9,7 +10,7 @@ use Rattle.finding.specs.declared.sheets_found.Unfound.{Unfound}
 use Rattle.finding.specs.declared.sheets_found.Unfound.TheVariants.{NoSheet, TooShort, Malformed, OutOfRange, NoMemory, WrongSize}
 use Rattle.inquiries.proofs.Spanning.{step, finish}
 use Rattle.inquiries.specs.Changes.{Waits, until, a_day, NextChange}
-use Rattle.inquiries.specs.Days.{on_day, MayOn, AskedOn, Left, as_it_was, by_finding}
+use Rattle.inquiries.specs.Days.{asked_on, MayOn, AskedOn, Left, as_it_was, by_finding}
 use Rattle.inquiries.specs.Spans.{Covered, Apart, SpansOf, KnownBefore, so_far, ended}
 use Rattle.inquiries.specs.declared.spans.Span.{Span}
 use Rattle.inquiries.specs.declared.spans.SpansSoFar.{SpansSoFar}
@@ -54,12 +55,12 @@ module _ (cs : List Certificate) (q : Question) where
     | inr past ↦ rw (le-ltb (last + 1) (2 ^ 32) past) (omega arith, omega arith)
   ]
 
-  stretch : (day : ℕ) → day < 2 ^ 32 → (may_to next : Option ℕ) → MayTo cs (on_day q day) may_to → NextChange day may_to next cs → Stretch day (until next) (is_some may_to)
+  stretch : (day : ℕ) → day < 2 ^ 32 → (may_to next : Option ℕ) → MayTo cs (asked_on day q) may_to → NextChange day may_to next cs → Stretch day (until next) (is_some may_to)
   stretch day small None next may_not change = record {
     later = change.later;
     decides = ((λ e. impossible (cc)), (λ may. absurd (may_not may)));
     same = λ other from below.
-        ((λ (d, has). (d, has_carries (no_more day (until next) other change.all_wait from below) has)), (λ may. absurd (may_not may)));
+        ((λ (d, has). (d, has_carries (on_day other q.access) (no_more day (until next) other change.all_wait from below) has)), (λ may. absurd (may_not may)));
   }
   stretch day small (Some last) next (some, may) change =
       let (later, most) = behind day last (some small) small in
@@ -88,7 +89,7 @@ module _ (cs : List Certificate) (q : Question) where
           left = by_finding day names₁ numbers₁ filled;
         }
 
-    untouched_left : (names₂ numbers₂ : List ℕ) → Untouched cs (on_day q day) names₁ numbers₁ names₂ numbers₂ → Left cs q names numbers names₂ numbers₂
+    untouched_left : (names₂ numbers₂ : List ℕ) → Untouched cs (asked_on day q) names₁ numbers₁ names₂ numbers₂ → Left cs q names numbers names₂ numbers₂
     untouched_left names₂ numbers₂ same =
         subst (λ xs. Left cs q names numbers xs numbers₂) (sym same.names_same) (subst (λ xs. Left cs q names numbers names₁ xs) (sym same.numbers_same) along.left)
 

@@ -1,4 +1,5 @@
 -- On which days a house may, and what that is worth after any deliveries. Assumes nothing.
+use Rattle.certificates.specs.Access.{on_day}
 use Rattle.std.specs.Prelude.{◌≡◌, ℕ, false, ◌⊎◌, List, Ok, Err, is_some, vec_items, Vec, Option, Result}
 use Rattle.certificates.specs.Meaning.{May}
 use Rattle.certificates.specs.declared.Certificate.{Certificate}
@@ -11,7 +12,7 @@ use Rattle.inquiries.specs.declared.spans.Span.{Span}
 use Rattle.inquiries.specs.declared.spans.SpansSoFar.{SpansSoFar}
 use Rattle.promise.specs.Happened.{happened, standing}
 use Rattle.promise.specs.Promise.{Bytes}
-use Rattle.promise.specs.Requests.{question_of, run}
+use Rattle.promise.specs.Requests.{asked, question_of, run}
 use Rattle.promise.specs.States.{State}
 use Rattle.promise.specs.declared.heads.Head.{Head}
 use Rattle.finding_lines.specs.Lines.{right_size}
@@ -21,25 +22,25 @@ use Rattle.std.specs.List.{AllByRecursion}
 use Rattle.std.specs.declared.alloc.Global.{Global}
 
 -- the same question on another day
-abbrev pub on_day : Question → ℕ → Question
-on_day q day = record { day = day; owner = q.owner; right = q.right; house = q.house }
+abbrev pub asked_on : ℕ → Question → Question
+asked_on day q = record { access = on_day day q.access; house = q.house }
 
 -- the house may on a day, by the certificates
 abbrev pub MayOn : List Certificate → Question → ℕ → Type 0
-MayOn cs q day = May cs day q.right q.owner q.house
+MayOn cs q day = May cs (on_day day q.access) q.house
 
 -- lent memory is as it was, or as finding on some day leaves it
 pub data Left (cs : List Certificate) (q : Question) (names numbers : List ℕ) : List ℕ → List ℕ → Type 0 where
   as_it_was : {names' numbers' : List ℕ} → names' ≡ names → numbers' ≡ numbers → Left cs q names numbers names' numbers'
-  by_finding : {names' numbers' : List ℕ} (day : ℕ) (names₀ numbers₀ : List ℕ) → MemoryFilled cs (on_day q day) names₀ numbers₀ names' numbers' → Left cs q names numbers names' numbers'
+  by_finding : {names' numbers' : List ℕ} (day : ℕ) (names₀ numbers₀ : List ℕ) → MemoryFilled cs (asked_on day q) names₀ numbers₀ names' numbers' → Left cs q names numbers names' numbers'
 
 -- what asking on a day comes to: it is known to which day the house may, if it does, and the spans go on; or why not
 abbrev pub AskedOn : List Certificate → Question → ℕ → List ℕ → List ℕ → List ℕ → List ℕ → SpansSoFar → SpansSoFar → Result (Option ℕ) Unfound → Type 0
 AskedOn cs q day names numbers names' numbers' spans spans' (Ok may_to) =
-    MayTo cs (on_day q day) may_to × (so_far spans' ≡ gone_on (vec_items spans.done) spans.since day (is_some may_to)) × MemoryFilled cs (on_day q day) names numbers names' numbers'
-AskedOn cs q day names numbers names' numbers' spans spans' (Err NoMemory) = MemoryFilled cs (on_day q day) names numbers names' numbers' ⊎ Untouched cs (on_day q day) names numbers names' numbers'
-AskedOn cs q day names numbers names' numbers' spans spans' (Err OutOfRange) = (askable q ≡ false) × Untouched cs (on_day q day) names numbers names' numbers'
-AskedOn cs q day names numbers names' numbers' spans spans' (Err WrongSize) = (right_size names numbers ≡ false) × Untouched cs (on_day q day) names numbers names' numbers'
+    MayTo cs (asked_on day q) may_to × (so_far spans' ≡ gone_on (vec_items spans.done) spans.since day (is_some may_to)) × MemoryFilled cs (asked_on day q) names numbers names' numbers'
+AskedOn cs q day names numbers names' numbers' spans spans' (Err NoMemory) = MemoryFilled cs (asked_on day q) names numbers names' numbers' ⊎ Untouched cs (asked_on day q) names numbers names' numbers'
+AskedOn cs q day names numbers names' numbers' spans spans' (Err OutOfRange) = (askable q ≡ false) × Untouched cs (asked_on day q) names numbers names' numbers'
+AskedOn cs q day names numbers names' numbers' spans spans' (Err WrongSize) = (right_size names numbers ≡ false) × Untouched cs (asked_on day q) names numbers names' numbers'
 AskedOn cs q day names numbers names' numbers' spans spans' (Err NoSheet) = ⊥
 AskedOn cs q day names numbers names' numbers' spans spans' (Err (TooShort needed)) = ⊥
 AskedOn cs q day names numbers names' numbers' spans spans' (Err Malformed) = ⊥
@@ -66,7 +67,7 @@ DaysLeft g names numbers names' numbers' (Ok h) = Left g.certificates (question_
 
 -- after the deliveries: the house may, by the certificates that came and were not taken back, exactly on the days that lie in the spans
 abbrev pub DaysAfter : ℕ → List (List ℕ) → Head → Result (Vec Span Global) Unfound → Type 0
-DaysAfter owner ds h (Ok spans) = SpansOf (λ day. May (standing (happened ds)) day h.right owner h.house) (vec_items spans)
+DaysAfter owner ds h (Ok spans) = SpansOf (λ day. May (standing (happened ds)) (on_day day (asked owner h)) h.house) (vec_items spans)
 DaysAfter owner ds h (Err e) = Unit {0}
 
 -- Whatever the deliveries were by which the gate came about, and however many days passed in them.

@@ -3,7 +3,7 @@ use Rattle.std.specs.Prelude.{◌≡◌, ℕ, List, [], ◌∷◌, Some, Ok, Err
 use Rattle.finding.specs.declared.sheets_found.Unfound.{Unfound}
 use Rattle.finding.specs.declared.sheets_found.Unfound.TheVariants.{NoSheet, TooShort, Malformed, OutOfRange, NoMemory, WrongSize}
 use Rattle.promise.specs.Promise.{Bytes, MayAfter}
-use Rattle.promise.specs.Requests.{take_head, receive, run}
+use Rattle.promise.specs.Requests.{take_head, asked, receive, run}
 use Rattle.promise.specs.States.{State}
 use Rattle.promise.specs.declared.answers.Answer.TheVariants.{Open}
 use Rattle.promise.specs.declared.heads.Head.{Head}
@@ -21,12 +21,12 @@ pub record AsksLike (h : Head) (d : List ℕ) : Type 0 where
 
 -- after the deliveries the house may not, and no request of it for that right opens the gate
 pub record ShutOut (owner : ℕ) (ds : List (List ℕ)) (h : Head) : Type 0 where
-  pub may_not : MayAfter ds h.right owner h.house → ⊥
+  pub may_not : MayAfter ds (asked owner h) h.house → ⊥
   pub never_opens : (d : List ℕ) → Bytes d → AsksLike h d → Memᴰ Open (receive (run owner ds) d).1 → ⊥
 
 -- what is promised of the answer to a request without lines, after some deliveries
 abbrev pub Promised : ℕ → List (List ℕ) → Head → Result (Vec ℕ Global) Unfound → Type 0
-Promised owner ds h (Ok whole) = ((receive (run owner ds) (vec_items whole)).1 ≡ Open ∷ []) × MayAfter ds h.right owner h.house
+Promised owner ds h (Ok whole) = ((receive (run owner ds) (vec_items whole)).1 ≡ Open ∷ []) × MayAfter ds (asked owner h) h.house
 Promised owner ds h (Err NoSheet) = ShutOut owner ds h
 Promised owner ds h (Err NoMemory) = Unit {0}
 Promised owner ds h (Err OutOfRange) = Unit {0}

@@ -26,7 +26,10 @@ fn ask_on(
 ) -> Result<Option<u32>, Unfound>
     ensures { AskedOn (certificates_of registry.now) question.now day names.old name_lines.old names.new name_lines.new spans.old spans.new result }
 {
-    let asked = Question { day, ..*question };
+    let asked = Question {
+        access: question.access.on_day(day),
+        ..*question
+    };
     let may_to = may_until(heap, registry, &asked, names, name_lines)?;
     spans.go_on(day, may_to.is_some())?;
     Ok(may_to)

@@ -10,7 +10,7 @@ abbrev pub ReadOn : {E : Type 0} → List ℕ → List ℕ → Result Bool E →
 ReadOn old new (Ok more) = Came old new more
 ReadOn old new (Err e) = new ≡ old
 
--- some bytes came, no more than a piece beyond those that are wanted; a failure leaves what came
+-- some bytes came, no more than a piece beyond those that are wanted; so it is after a failure too
 abbrev pub ReadPast : List ℕ → List ℕ → ℕ → Type 0
 ReadPast old new longest = (came : List ℕ) × (new ≡ old ++ came) × (length new ≤ max (length old) (longest + 16384))
 

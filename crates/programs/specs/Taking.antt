@@ -5,6 +5,7 @@ use Rattle.programs.specs.Files.{last_bytes}
 use Rattle.promise.specs.Promise.{Bytes}
 use Rattle.promise.specs.States.{State, deliver}
 use Rattle.std.specs.Option.{option_map}
+use Rattle.wire.specs.Settled.{longest_event}
 
 -- what is left of the bytes that are held: the last, so many; none where nothing more of the file is read
 abbrev pub left_of : List ℕ → Option ℕ → Option (List ℕ)
@@ -18,4 +19,4 @@ HeldTaken g held last g' left =
 -- fewer bytes are left than the longest event has, and none of the last ones
 abbrev pub FewLeft : ℕ → Bool → Option ℕ → Type 0
 FewLeft held last None = Unit {0}
-FewLeft held last (Some count) = (count ≤ held) × (count < 533) × (last ≡ true → count ≡ 0)
+FewLeft held last (Some count) = (count ≤ held) × (count < longest_event) × (last ≡ true → count ≡ 0)

@@ -1,10 +1,10 @@
 // Files of the programs, read in pieces.
-ghost use Rattle.promise.specs.Promise.{is_request};
+ghost use Rattle.promise.specs.Happened.{is_request};
 ghost use Rattle.programs.specs.Files.{ReadOn, ReadPast, last_bytes};
-ghost use Rattle.std.specs.Prelude.{◌≡◌, ◌+◌, ◌-◌, ◌^◌, [], IfOk, min, length};
+ghost use Rattle.std.specs.Prelude.{◌≡◌, ◌+◌, ◌-◌, ◌^◌, ◌<◌, ◌≤◌, true, [], IfOk, min, length};
 
 use anyhow::anyhow;
-use promise::heads::REQUEST;
+use promise::heads::is_request;
 use std::fs::File;
 use std::io::Read;
 use std::{fs, io};
@@ -76,22 +76,33 @@ impl<'a> Delivery<'a> {
     pub(crate) fn is_request(&self) -> bool
         ensures { result ≡ is_request self.now.bytes.items }
     {
-        matches!(self.bytes.as_slice(), [REQUEST, ..])
+        is_request(self.bytes.as_slice())
     }
 
-    // Reads on to the end of the file, or until there are more bytes than `longest`: enough to see that it is longer.
+    // Reads on until there are more bytes than `longest`, enough to see that it is longer; false where the file ends before.
     // Where a file ends, only a run shows.
-    pub(crate) fn read_past(&mut self, longest: usize) -> anyhow::Result<()>
+    pub(crate) fn read_past(&mut self, longest: usize) -> anyhow::Result<bool>
         ensures bytes { ReadPast self.old.bytes.items self.new.bytes.items longest }
+        ensures past { IfOk result (λ more. more ≡ true → longest < length self.new.bytes.items) }
         ensures before { self.new.before ≡ self.old.before }
     {
-        // Counted: each turn but the last brings a byte at least.
-        for _ in 0..=longest {
-            if self.bytes.len() > longest || !self.read_on()? {
-                break;
+        // each turn but the last brings a byte at least
+        while self.bytes.len() <= longest {
+            if !self.read_on()? {
+                return Ok(false);
             }
         }
-        Ok(())
+        Ok(true)
+    }
+
+    // Reads on until a full piece came behind what is held; false where the file ends before.
+    pub(crate) fn read_piece(&mut self) -> anyhow::Result<bool>
+        ensures bytes { ReadPast self.old.bytes.items self.new.bytes.items (length self.old.bytes.items + 16383) }
+        ensures full { IfOk result (λ more. more ≡ true → length self.old.bytes.items + 16384 ≤ length self.new.bytes.items) }
+        ensures before { self.new.before ≡ self.old.before }
+    {
+        let held = self.bytes.len();
+        self.read_past(held + (PIECE - 1))
     }
 
     // Holds only the last bytes, so many; what is dropped stands in front of them.

@@ -4,19 +4,21 @@ use crate::files::Delivery;
 use crate::taking::{new_gate, open_all, take_events};
 use crate::telling::ByNumber;
 use gates::Gate;
-use gates::requests::LONGEST_REQUEST;
 use gates::troubles::Trouble;
 use sheets::checking::MEMORY_WORDS;
 use std::process::ExitCode;
 
-// Answers a request, of which no more is read than the longest one has, and one byte to see that it is longer.
+// Answers a request; `more` says whether the file may go on behind what is held. No more of it is read than shows that it is longer than any can be at this gate.
 fn answer_request(
     rt: &HostRuntime,
     gate: &Gate,
     memory: &mut [u64],
     mut delivery: Delivery<'_>,
+    more: bool,
 ) -> anyhow::Result<()> {
-    delivery.read_past(LONGEST_REQUEST)?;
+    if more {
+        let _ = delivery.read_past(gate.longest_request())?;
+    }
     let answer = gate
         .answer(delivery.bytes.as_slice(), memory)
         .map_err(Trouble::from)?;
@@ -32,12 +34,12 @@ fn receive_file(
     name: &str,
 ) -> anyhow::Result<Gate> {
     let mut delivery = Delivery::open(rt, name)?;
-    let _ = delivery.read_on()?;
+    let more = delivery.read_piece()?;
     if delivery.is_request() {
-        answer_request(rt, &gate, memory, delivery)?;
+        answer_request(rt, &gate, memory, delivery, more)?;
         return Ok(gate);
     }
-    take_events(rt, gate, &ByNumber, delivery)
+    take_events(rt, gate, &ByNumber, delivery, more)
 }
 
 // Every file is opened before the first is taken, so that a name that is wrong prints no answers.

@@ -7,13 +7,13 @@ pub(crate) fn begin_of(piece: &[u8], left: usize) -> usize {
     // Counted: each event has a byte at least, so a piece has no more events than bytes.
     for _ in 0..piece.len() {
         let begin = piece.len().saturating_sub(rest.len());
-        rest = match read_event(rest) {
-            Ok((_, behind)) => behind,
-            Err(refusal) => refusal.rest,
+        let Some((_, behind)) = read_event(rest) else {
+            return begin;
         };
-        if rest.len() <= left {
+        if behind.len() <= left {
             return begin;
         }
+        rest = behind;
     }
     0
 }

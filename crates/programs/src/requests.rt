@@ -3,9 +3,10 @@ use crate::arguments::{Call, read_call};
 use crate::files::Delivery;
 use crate::taking::{new_gate, open_all, take_file};
 use anyhow::{Context, anyhow};
-use finding::sheets_found::{HEAD, Unfound};
+use finding::sheets_found::Unfound;
 use finding_lines::lines::NUMBERS;
 use gates::Gate;
+use promise::heads::HEAD;
 use sheets::checking::MEMORY_WORDS;
 use std::process::ExitCode;
 
@@ -24,7 +25,7 @@ pub(crate) struct Inquiry {
 // The front of a file that holds a request; no more of it is read than shows that it is longer than a request without lines.
 fn read_request(rt: &HostRuntime, name: &str) -> anyhow::Result<Vec<u8>> {
     let mut delivery = Delivery::open(rt, name)?;
-    delivery.read_past(HEAD)?;
+    let _ = delivery.read_past(HEAD)?;
     Ok(delivery.bytes)
 }
 

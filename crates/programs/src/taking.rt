@@ -62,17 +62,18 @@ fn take_held<T: Telling>(
     }
 }
 
-// Takes the events of a file piece by piece; no more is held than a piece and what an event needs.
+// Takes the events of a file piece by piece, of which the first is held; `more` says whether the file may go on behind it.
+// What is left of a piece is looked at again only when a full one came behind it, or the end: no more is held than two pieces and what an event needs.
 pub(crate) fn take_events<T: Telling>(
     rt: &HostRuntime,
     mut gate: Gate,
     telling: &T,
     mut delivery: Delivery<'_>,
+    mut more: bool,
 ) -> anyhow::Result<Gate> {
     let mut answers = Vec::with_capacity(rt.alloc(), telling.answers_held())?;
     // Counted, since a file may give bytes without end.
     for _ in 0..u64::MAX {
-        let more = delivery.read_on()?;
         let (next, left) = take_held(rt, gate, telling, &delivery, !more, &mut answers)?;
         gate = next;
         let Some(left) = left else {
@@ -82,6 +83,7 @@ pub(crate) fn take_events<T: Telling>(
             break;
         }
         delivery.keep(left);
+        more = delivery.read_piece()?;
     }
     Ok(gate)
 }
@@ -89,9 +91,9 @@ pub(crate) fn take_events<T: Telling>(
 // Takes the events of a file; a request in it changes nothing. The program `gate` answers requests besides, and tells by number (`receive_file`).
 pub(crate) fn take_file(rt: &HostRuntime, gate: Gate, name: &str) -> anyhow::Result<Gate> {
     let mut delivery = Delivery::open(rt, name)?;
-    let _ = delivery.read_on()?;
+    let more = delivery.read_piece()?;
     if delivery.is_request() {
         return Ok(gate);
     }
-    take_events(rt, gate, &ByPlace, delivery)
+    take_events(rt, gate, &ByPlace, delivery, more)
 }

@@ -3,8 +3,8 @@ ghost use Rattle.std.specs.Prelude.{◌<◌};
 
 use crate::files::PIECE;
 use crate::places::begin_of;
-use gates_pieces::LONGEST_EVENT;
 use promise::answers::Answer;
+use wire::reading::LONGEST_EVENT;
 
 // A part of a file of which events were taken.
 #[derive(Clone, Copy)]

@@ -1,4 +1,5 @@
 -- A right carries over between lists of certificates of which the same are valid on the day. Assumes nothing.
+use Rattle.certificates.specs.declared.access.Access.{Access}
 use Rattle.std.proofs.Common.{◌≡◌, ℕ, Bool, true, false, cond, List, [], ◌∷◌, filter, sym, ap, ◌∙◌, ⊎_elim}
 use Rattle.certificates.proofs.Meaning.{Carries, has_carries}
 use Rattle.certificates.specs.Certificates.{valid}
@@ -25,9 +26,10 @@ module _ {X : Type 0} (test : X → Bool) where
       either true behind j = ⊎_elim (λ e. Memᴰ.head e) (λ k. Memᴰ.tail (behind k)) (Memᴰ.cases_cons j)
       either false behind j = Memᴰ.tail (behind j)
 
-pub may_carries : (cs ds : List Certificate) (day right owner house : ℕ) → filter (valid day) cs ≡ filter (valid day) ds →
-    May cs day right owner house → May ds day right owner house
+pub may_carries : (cs ds : List Certificate) (access : Access) (house : ℕ) → filter (valid access.day) cs ≡ filter (valid access.day) ds →
+    May cs access house → May ds access house
 unfolding Carries
-may_carries cs ds day right owner house same (d, h) =
-    let over : Carries cs day ds day = λ c i v. (from_kept (valid day) ds (rw same at (in_kept (valid day) i (valid_from day c v))), v) in
-    (d, has_carries over h)
+may_carries cs ds access house same (d, h) =
+    let over : Carries cs access.day ds access.day
+    = λ c i v. (from_kept (valid access.day) ds (rw same at (in_kept (valid access.day) i (valid_from access.day c v))), v) in
+    (d, has_carries access over h)

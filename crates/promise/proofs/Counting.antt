@@ -17,13 +17,9 @@ use Rattle.wire.specs.declared.events.Event.TheVariants.{Issued, Revoked, DayPas
 revoked_well : (c : Certificate) → WellFormed c → WellFormed (revoked_of c)
 revoked_well c w = record {
   issuer_known = w.issuer_known;
-  house_known = w.house_known;
   first_fits = omega arith;
   last_fits = omega arith;
-  six_places = w.six_places;
-  few_names = w.few_names;
-  names_fit = w.names_fit;
-  zero_behind = w.zero_behind;
+  subject_formed = w.subject_formed;
   sensible = w.sensible;
 }
 

@@ -1,7 +1,7 @@
 -- A gate after some deliveries is the gate after the events that they hold. Assumes nothing.
-use Rattle.std.proofs.Common.{◌≡◌, ℕ, zero, suc, Bool, true, false, cond, eqb, List, [], ◌∷◌, ◌++◌, length, Some, None, Ok, Err, Option, sym, refl, ap, ◌∙◌}
-use Rattle.promise.specs.States.{State, take, first_taken, Delivered, noting, deliver_within}
-use Rattle.promise.specs.Happened.{noted, read_on, events_within, events_of, happened}
+use Rattle.std.proofs.Common.{◌≡◌, ℕ, zero, suc, Bool, true, false, cond, List, [], ◌∷◌, ◌++◌, length, Some, None, Ok, Err, Option, Result, sym, refl, ap, ◌∙◌}
+use Rattle.promise.specs.States.{State, take, take_read, first_taken, Delivered, noting, deliver_within}
+use Rattle.promise.specs.Happened.{noted, first_noted, is_request, events_within, events_of, happened}
 use Rattle.promise.specs.Requests.{receive, after}
 use Rattle.promise.specs.declared.answers.Answer.{Answer}
 use Rattle.wire.specs.Reading.{Reading, event_read}
@@ -28,15 +28,19 @@ within_events zero g s = refl
 within_events (suc n) g [] = refl
 within_events (suc n) g (b ∷ s) = first (within_events n) (event_read (b ∷ s))
   where
+    taken : ((g : State) (s : List ℕ) → (deliver_within n g s).0 ≡ after_events g (events_within n s)) → (read : Result Event Fault) (rest : List ℕ) →
+        (noting (take_read g read).1 (deliver_within n (take_read g read).0 rest)).0 ≡ after_events g (noted read (events_within n rest))
+    taken behind (Ok e) rest = noting_leaves (take g e).1 (deliver_within n (take g e).0 rest) ∙ behind (take g e).0 rest
+    taken behind (Err fault) rest = behind g rest
+
     first : ((g : State) (s : List ℕ) → (deliver_within n g s).0 ≡ after_events g (events_within n s)) → (r : Reading) →
-        (noting (first_taken g r).0.1 (deliver_within n (first_taken g r).0.0 (first_taken g r).1)).0 ≡ after_events g (noted r (events_within n (read_on r)))
-    first behind (Ok p) = noting_leaves (take g p.0).1 (deliver_within n (take g p.0).0 p.1) ∙ behind (take g p.0).0 p.1
-    first behind (Err e) = behind g e.1
+        (first_taken g r (deliver_within n)).0 ≡ after_events g (first_noted r (events_within n))
+    first behind None = refl
+    first behind (Some p) = taken behind p.0 p.1
 
 receive_events : (g : State) (d : List ℕ) → (receive g d).0 ≡ after_events g (events_of d)
 unfolding after_events
-receive_events g [] = refl
-receive_events g (b ∷ s) = by_kind (eqb b 4) _ _ _ (within_events (length (b ∷ s)) g (b ∷ s))
+receive_events g d = by_kind (is_request d) _ _ _ (within_events (length d) g d)
   where
     by_kind : (t : Bool) (asked : List Answer) (told : State × List Answer) (events : List Event) → told.0 ≡ after_events g events →
         (cond t (g, asked) told).0 ≡ after_events g (cond t [] events)

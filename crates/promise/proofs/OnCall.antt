@@ -1,5 +1,6 @@
 -- The promise on the calls that take deliveries and answer requests. Assumes nothing.
 use Rattle.std.proofs.Common.{◌≡◌, ℕ, ◌<◌, List, [], ◌∷◌, ◌++◌, IfOk, Ok, Err, Result, sym, refl, ap, ◌∙◌, subst, MatchResult}
+use Rattle.promise.proofs.Opening.{opening}
 use Rattle.promise.proofs.Promised.{main}
 use Rattle.promise.specs.Promise.{Bytes, AllLetIn, KeptAnswer, EachLetIn, KeptAll, request_bytes}
 use Rattle.promise.specs.Requests.{answer, receive, receive_all, after, run}
@@ -36,11 +37,11 @@ every_kept owner known ds all g from house right small small-right may =
     let (lines, opens, few) = (main.0 owner known ds all).every house right small small-right may in
     (lines, ap (λ (h : State). (receive h (request_bytes house right lines)).1) from ∙ opens, few)
 
+-- an answer is open only for a request, so it is the gate's answer to a delivery
 pub answer_kept_lem : (g : State) (d : List ℕ) (answered : Answer) → g.owner < 1024 → Bytes d → answered ≡ answer g d → KeptAnswer g d answered
-answer_kept_lem g d answered known small is lines begins ds all from opens =
-    let same : (receive g d).1 ≡ answer g d ∷ [] = rw begins in
-    (main.0 g.owner known ds all).only d small
-    (subst (λ (given : List Answer). Memᴰ Open given) (ap (λ (h : State). (receive h d).1) from) (rw same (Memᴰ.head (sym opens ∙ is))))
+answer_kept_lem g d answered known small is ds all from opens =
+    let given : Memᴰ Open (receive g d).1 = opening g d (sym is ∙ opens) in
+    (main.0 g.owner known ds all).only d small (subst (λ (h : State). Memᴰ Open (receive h d).1) from given)
 
 each_kept : (owner : ℕ) → owner < 1024 → (before ds : List (List ℕ)) → AllByRecursion Bytes before → AllByRecursion Bytes ds → (g : State) → g ≡ run owner before →
     EachLetIn owner before ds (receive_all g ds).1

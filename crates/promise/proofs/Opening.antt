@@ -1,12 +1,14 @@
 -- A gate opens only to a request whose head is read and whose sheet is found to hold. Assumes nothing.
-use Rattle.std.proofs.Common.{◌≡◌, ℕ, ◌*◌, Bool, true, false, cond, ◌&&◌, eqb, leb, List, [], ◌∷◌, map, length, Some, None, Ok, Err, Result, refl}
+use Rattle.std.proofs.Common.{◌≡◌, ℕ, ◌*◌, Bool, true, false, cond, ◌&&◌, eqb, leb, List, [], ◌∷◌, map, length, Some, None, Ok, Err, Result, sym, refl, ap, ◌∙◌}
 use Rattle.promise.specs.States.{State, deliver}
-use Rattle.promise.specs.Requests.{Head, take_head, decided, answer_head, answer, receive}
+use Rattle.promise.specs.Happened.{is_request}
+use Rattle.promise.specs.Requests.{Head, take_asked, take_head, question_of, decided, answer_head, answer, receive}
 use Rattle.promise.specs.declared.answers.Answer.{Answer}
 use Rattle.promise.specs.declared.answers.Answer.TheVariants.{Open, Refused}
 use Rattle.sheets.proofs.Shown.{impossible}
-use Rattle.sheets.specs.Checking.{check_sheet}
-use Rattle.wire.specs.Numbers.{Taken}
+use Rattle.sheets.specs.Passing.{check_for}
+use Rattle.wire.proofs.Numerals.{byte_taken}
+use Rattle.wire.specs.Numbers.{Taken, and_then}
 use Rattle.wire.specs.declared.faults.Fault.{Fault}
 use Rattle.wire.specs.declared.faults.Fault.TheVariants.{OutOfRange, TooManyLines}
 use mathlib.Core.List.Memᴰ
@@ -14,7 +16,7 @@ use mathlib.Core.List.{Memᴰ}
 
 -- the sheet that follows the head is found to hold
 abbrev pub Found : State → Head → List ℕ → Type 0
-Found g h rest = (check_sheet g.certificates g.day h.right g.owner h.house h.lines rest).1 ≡ Ok tt
+Found g h rest = (check_for g.certificates (question_of g.day g.owner h) h.lines rest).1 ≡ Ok tt
 
 passed_on : (t : Bool) (a : Answer) (fault : Fault) → Open ≡ cond t a (Refused fault) → Open ≡ a
 passed_on true a fault e = e
@@ -38,5 +40,20 @@ asked_open true g later a faults i = Memᴰ.eq_of_singleton i
 asked_open false g later a faults i = let (fault, j, e) = Memᴰ.of_map Refused faults i in impossible (cc)
 
 pub opened_found : (g : State) (d : List ℕ) → Memᴰ Open (receive g d).1 → (h : Head) × (rest : List ℕ) × (take_head d ≡ Some (h, rest)) × Found g h rest
-opened_found g [] i = absurd (Memᴰ.not-nil i)
-opened_found g (b ∷ s) i = open_found g (take_head (b ∷ s)) (asked_open (eqb b 4) g _ (answer g (b ∷ s)) (deliver g (b ∷ s)).1 i)
+opened_found g d i = open_found g (take_head d) (asked_open (is_request d) g _ (answer g d) (deliver g d).1 i)
+
+-- only a request has a head
+head_asks : (d : List ℕ) (t : Taken Head) → take_head d ≡ t → (p : Head × List ℕ) → t ≡ Some p → is_request d ≡ true
+head_asks [] t is p some = impossible (cc)
+head_asks (b ∷ s) t is p some = by_kind (eqb b 4) (sym (ap (λ x. and_then x λ kind rest. cond (eqb kind 4) (take_asked rest) None) (byte_taken b s)) ∙ (is ∙ some))
+  where
+    by_kind : (k : Bool) → cond k (take_asked s) None ≡ Some p → k ≡ true
+    by_kind true e = refl
+    by_kind false e = impossible (cc)
+
+-- so what is answered by an open gate is received as a request
+pub opening : (g : State) (d : List ℕ) → answer g d ≡ Open → Memᴰ Open (receive g d).1
+opening g d opens =
+    let (h, rest, read, found) = open_found g (take_head d) (sym opens) in
+    let asks = head_asks d (take_head d) refl (h, rest) read in
+    rw asks (Memᴰ.head (sym opens))

@@ -1,5 +1,7 @@
 -- What a gate is after some deliveries, told by what happened. Assumes nothing.
-use Rattle.std.proofs.Common.{◌≡◌, ℕ, ◌↔◌, List, length, sym, arith}
+use Rattle.certificates.specs.declared.access.Access.{Access}
+use Rattle.std.proofs.Common.{◌≡◌, ℕ, ◌↔◌, List, length, sym, ap₂, arith}
+use Rattle.certificates.specs.Access.{any_day, on_day}
 use Rattle.certificates.specs.Certificates.{WellFormed}
 use Rattle.certificates.specs.Meaning.{May}
 use Rattle.promise.proofs.Carried.{may_carries}
@@ -19,7 +21,12 @@ pub record Ran (owner : ℕ) (ds : List (List ℕ)) (g : State) : Type 0 where
   pub is_today : g.day ≡ today (happened ds)
   pub all_came : length g.certificates ≡ came (happened ds)
   pub well : AllByRecursion WellFormed g.certificates
-  pub same_may : (day right house : ℕ) → May g.certificates day right owner house ↔ May (standing (happened ds)) day right owner house
+  pub same_may : (access : Access) (house : ℕ) → May g.certificates access house ↔ May (standing (happened ds)) access house
+
+-- what is asked for at the gate is asked for by what happened
+pub asked_here : {owner : ℕ} {ds : List (List ℕ)} {g : State} → Ran owner ds g → (right : ℕ) →
+    on_day g.day (any_day g.owner right) ≡ on_day (today (happened ds)) (any_day owner right)
+asked_here r right = ap₂ {C = Access} (λ day o. on_day day (any_day o right)) r.is_today r.same_owner
 
 pub ran : (owner : ℕ) (ds : List (List ℕ)) → AllByRecursion Bytes ds → Ran owner ds (run owner ds)
 ran owner ds small =
@@ -31,8 +38,8 @@ ran owner ds small =
       is_today = omega (arith, day_after new events (omega arith));
       all_came = omega (arith, count_after new events (omega arith));
       well = well_after new events (happened_writable ds small) tt;
-      same_may = λ day right house. (
-        may_carries cs (standing events) day right owner house (valid_stand day owner events),
-        may_carries (standing events) cs day right owner house (sym (valid_stand day owner events)),
+      same_may = λ access house. (
+        may_carries cs (standing events) access house (valid_stand access.day owner events),
+        may_carries (standing events) cs access house (sym (valid_stand access.day owner events)),
       );
     })

@@ -1,29 +1,36 @@
 -- What happened, read off the deliveries alone: no gate is in it. Assumes nothing.
-use Rattle.std.specs.Prelude.{ℕ, zero, suc, min, Bool, false, cond, ◌||◌, List, [], ◌∷◌, length, Ok, Err, ◌==◌, nat_lt}
+use Rattle.std.specs.Prelude.{ℕ, zero, suc, min, Bool, false, cond, ◌||◌, List, [], ◌∷◌, length, Some, None, Ok, Err, Result, ◌==◌, nat_lt}
 use Rattle.certificates.specs.declared.Certificate.{Certificate}
 use Rattle.std.specs.List.{flat_map}
 use Rattle.wire.specs.Reading.{Reading, event_read}
 use Rattle.wire.specs.declared.events.Event.{Event}
 use Rattle.wire.specs.declared.events.Event.TheVariants.{Issued, Revoked, DayPassed}
+use Rattle.wire.specs.declared.faults.Fault.{Fault}
 
-abbrev pub noted : Reading → List Event → List Event
-noted (Ok p) events = p.0 ∷ events
-noted (Err e) events = events
+-- what is refused is no event
+abbrev pub noted : Result Event Fault → List Event → List Event
+noted (Ok e) events = e ∷ events
+noted (Err fault) events = events
 
-abbrev pub read_on : Reading → List ℕ
-read_on (Ok p) = p.1
-read_on (Err e) = e.1
+-- the first event of some bytes, and then those behind it; where none can be read, there are no more
+abbrev pub first_noted : Reading → (List ℕ → List Event) → List Event
+first_noted None next = []
+first_noted (Some p) next = noted p.0 (next p.1)
 
 -- the events that some bytes hold, at most n
 unfoldable pub events_within : ℕ → List ℕ → List Event
 events_within zero s = []
 events_within (suc n) [] = []
-events_within (suc n) (b ∷ s) = noted (event_read (b ∷ s)) (events_within n (read_on (event_read (b ∷ s))))
+events_within (suc n) (b ∷ s) = first_noted (event_read (b ∷ s)) (events_within n)
+
+-- a delivery that is a request: its first byte is 4
+abbrev pub is_request : List ℕ → Bool
+is_request [] = false
+is_request (b ∷ s) = b == 4
 
 -- a request holds no events; in any other delivery there are no more events than bytes
 abbrev pub events_of : List ℕ → List Event
-events_of [] = []
-events_of (b ∷ s) = cond (b == 4) [] (events_within (length (b ∷ s)) (b ∷ s))
+events_of d = cond (is_request d) [] (events_within (length d) d)
 
 -- all events, in the order in which they came
 abbrev pub happened : List (List ℕ) → List Event

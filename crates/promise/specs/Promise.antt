@@ -1,10 +1,12 @@
 -- The promise of the whole: who is let in, after any deliveries. Assumes nothing.
-use Rattle.std.specs.Prelude.{◌≡◌, ℕ, ◌*◌, ◌<◌, ◌≤◌, Bool, false, List, [], ◌∷◌, ◌++◌, length, Some, ◌==◌}
+use Rattle.std.specs.Prelude.{◌≡◌, ℕ, ◌*◌, ◌<◌, ◌≤◌, List, [], ◌∷◌, ◌++◌, length, Some}
+use Rattle.certificates.specs.Access.{any_day, on_day}
+use Rattle.certificates.specs.declared.access.Access.{Access}
 use Rattle.certificates.specs.Laws.{Grows, FromOwner}
 use Rattle.certificates.specs.Meaning.{May}
 use Rattle.promise.specs.States.{State}
 use Rattle.promise.specs.Happened.{happened, today, standing, came}
-use Rattle.promise.specs.Requests.{Head, take_head, receive, run}
+use Rattle.promise.specs.Requests.{Head, take_head, asked, receive, run}
 use Rattle.promise.specs.declared.answers.Answer.{Answer}
 use Rattle.promise.specs.declared.answers.Answer.TheVariants.{Open}
 use Rattle.sheets.specs.Bytes.{bytes_of_sheet}
@@ -17,27 +19,22 @@ use mathlib.Core.List.{Memᴰ}
 abbrev pub Bytes : List ℕ → Type 0
 Bytes d = AllByRecursion (λ b. b < 256) d
 
--- a delivery that is a request; any other holds events
-abbrev pub is_request : List ℕ → Bool
-is_request [] = false
-is_request (b ∷ s) = b == 4
-
 -- the bytes of a request with its sheet
 abbrev pub request_bytes : ℕ → ℕ → List Line → List ℕ
 request_bytes house right lines = 4 ∷ (bytes 2 house ++ (right ∷ (bytes 4 (length lines) ++ bytes_of_sheet lines)))
 
 -- the house may, by the certificates that came and were not taken back, on the day that it is after the deliveries
-abbrev pub MayAfter : List (List ℕ) → ℕ → ℕ → ℕ → Type 0
-MayAfter ds right owner house = May (standing (happened ds)) (today (happened ds)) right owner house
+abbrev pub MayAfter : List (List ℕ) → Access → ℕ → Type 0
+MayAfter ds access house = May (standing (happened ds)) (on_day (today (happened ds)) access) house
 
 -- the delivery d is a request of a house that may, by what happened in the deliveries ds before it
 abbrev pub LetIn : ℕ → List (List ℕ) → List ℕ → Type 0
-LetIn owner ds d = (h : Head) × (rest : List ℕ) × (take_head d ≡ Some (h, rest)) × MayAfter ds h.right owner h.house
+LetIn owner ds d = (h : Head) × (rest : List ℕ) × (take_head d ≡ Some (h, rest)) × MayAfter ds (asked owner h) h.house
 
 -- whoever may after the deliveries ds has a request with which the gate g lets them in, its sheet no longer than certificates times houses
 abbrev pub AllLetIn : ℕ → List (List ℕ) → State → Type 0
 AllLetIn owner ds g =
-    (house right : ℕ) → house < 1024 → right < 64 → MayAfter ds right owner house →
+    (house right : ℕ) → house < 1024 → right < 64 → MayAfter ds (any_day owner right) house →
     (lines : List Line) × ((receive g (request_bytes house right lines)).1 ≡ Open ∷ []) × (length lines ≤ came (happened ds) * 1024)
 
 -- a gate of the owner after some deliveries: whoever is let in may, and whoever may is let in
@@ -52,7 +49,7 @@ Main = ((owner : ℕ) → owner < 1024 → (ds : List (List ℕ)) → AllByRecur
 -- What a gate keeps when it answers a request d: whatever the deliveries ds were by which it came about, who is let in may.
 abbrev pub KeptAnswer : State → List ℕ → Answer → Type 0
 KeptAnswer g d answered =
-    (lines : List ℕ) → d ≡ 4 ∷ lines → (ds : List (List ℕ)) → AllByRecursion Bytes ds → g ≡ run g.owner ds → answered ≡ Open → LetIn g.owner ds d
+    (ds : List (List ℕ)) → AllByRecursion Bytes ds → g ≡ run g.owner ds → answered ≡ Open → LetIn g.owner ds d
 
 -- the answers to some deliveries that follow others: those to the first, by which whoever is let in may, then those to the rest
 unfoldable pub EachLetIn : ℕ → List (List ℕ) → List (List ℕ) → List Answer → Type 0

@@ -12,7 +12,7 @@ certificates_of g = vec_items g.certificates
 
 -- the certificate of a number; a number that none has reads as one that is valid on no day
 abbrev pub never : Certificate
-never = record { issuer = 0; subject = record { house = 0; names = replicate 6 0; count = 0 }; first = 1; last = 0; statement = Name 0 }
+never = record { issuer = 0; first = 1; last = 0; statement = Name (record { house = 0; names = replicate 6 0; count = 0 }) 0 }
 
 abbrev pub certificate_at : List Certificate → ℕ → Certificate
 certificate_at cs i = slice_index_or cs i never

@@ -5,8 +5,8 @@ use Rattle.certificates.specs.declared.Statement.{Statement}
 use Rattle.certificates.specs.declared.Statement.TheVariants.{Name, Rights}
 
 abbrev pub says_name : ℕ → Statement → Bool
-says_name name (Name n) = n == name
-says_name name (Rights set delegable) = false
+says_name name (Name who n) = n == name
+says_name name (Rights who set delegable) = false
 
 -- the certificate says what this name of this house stands for
 abbrev pub states_name : ℕ → ℕ → Certificate → Bool

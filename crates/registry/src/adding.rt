@@ -13,7 +13,7 @@ impl Registry {
     pub(crate) fn new_name(&self, certificate: &Certificate) -> Option<(usize, u16)>
         ensures { MatchOption result (NoNewName (certificates_of self.now) certificate.now) (λ x. Place self.now.index.entries.items certificate.now.issuer x.1 x.0 × NewName (certificates_of self.now) certificate.now x.1) }
     {
-        let Statement::Name(name) = certificate.statement else {
+        let Statement::Name { name, .. } = certificate.statement else {
             return None;
         };
         let place = self.search(certificate.issuer, name).err()?;

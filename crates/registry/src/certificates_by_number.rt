@@ -39,12 +39,12 @@ impl Registry {
         self.certificates.as_slice()
     }
 
-    // The certificate of a number.
+    // The certificate of a number, lent: it is too large to be copied for each line of a sheet.
     #[tactic(auto, using(crate::proofs::Kept::in_range_at))]
-    pub fn get(&self, number: u16) -> Option<Certificate>
-        ensures { MatchOption result (length (certificates_of self.now) ≤ number) (λ c. (number < length (certificates_of self.now)) × (c ≡ certificate_at (certificates_of self.now) number) × (in_range c ≡ true)) }
+    pub fn get(&self, number: u16) -> Option<&Certificate>
+        ensures { MatchOption result (length (certificates_of self.now) ≤ number) (λ c. (number < length (certificates_of self.now)) × (c.now ≡ certificate_at (certificates_of self.now) number) × (in_range c.now ≡ true)) }
     {
-        self.certificates.get(usize::from(number)).copied()
+        self.certificates.get(usize::from(number))
     }
 
     // A certificate comes and gets the next number, or is refused.

@@ -1,7 +1,8 @@
 -- A line judged by the facts in memory is judged by the facts that are shown. Assumes nothing.
+use Rattle.certificates.specs.declared.access.Access.{Access}
 use Rattle.std.proofs.Common.{◌≡◌, ℕ, suc, ◌+◌, ◌<◌, Bool, true, false, cond, leb, List, [], ◌∷◌, length, Some, None, Ok, Err, Option, Result, sym, refl, ap, ◌∙◌, add-zero, zero-add, arith}
 use Rattle.certificates.proofs.Ranges.{ranged}
-use Rattle.certificates.specs.Certificates.{names_of, in_range, valid}
+use Rattle.certificates.specs.Certificates.{names_of, in_range, valid, subject_of}
 use Rattle.certificates.specs.Rights.{member}
 use Rattle.certificates.specs.declared.Certificate.{Certificate}
 use Rattle.certificates.specs.declared.Statement.{Statement}
@@ -53,29 +54,29 @@ abbrev pub showing : Certificate → Result ℕ Fault → Result Fact Fault
 showing c (Ok last) = Ok (fact_of c last)
 showing c (Err fault) = Err fault
 
-module _ {cs : List Certificate} {facts : List Fact} {names rights : List ℕ} (r : Remembers cs facts names rights) (line day right : ℕ) (l : Line)
-    (sound : in_range l.certificate ≡ true) (many : length (names_of l.certificate.subject) ≡ length (houses_of l)) where
+module _ {cs : List Certificate} {facts : List Fact} {names rights : List ℕ} (r : Remembers cs facts names rights) (line : ℕ) (access : Access) (l : Line)
+    (sound : in_range l.certificate.now ≡ true) (many : length (names_of (subject_of l.certificate.now.statement)) ≡ length (houses_of l)) where
   abbrev c : Certificate
-  c = l.certificate
+  c = l.certificate.now
 
   abbrev test : ℕ → ℕ → ℕ → Bool
   test = remembered cs names
 
-  steps_judged : (first : Option ℕ) → stepped line facts c (houses_of l) first ≡ showing c (step_fault line (told 0 (reached c.subject.house (houses_of l)) first))
+  steps_judged : (first : Option ℕ) → stepped line facts c (houses_of l) first ≡ showing c (step_fault line (told 0 (reached (subject_of c.statement).house (houses_of l)) first))
   steps_judged None = refl
   steps_judged (Some k) = ap (λ (n : ℕ). Err (StepNotShown line n)) (sym (zero-add k))
 
   walk_judged : known_houses (houses_of l) ≡ true → walked line facts c (houses_of l) ≡ showing c (step_fault line (walked_by test l))
   walk_judged known =
-      steps_judged (unshown facts c.subject.house (names_of c.subject) (houses_of l))
+      steps_judged (unshown facts (subject_of c.statement).house (names_of (subject_of c.statement)) (houses_of l))
       ∙ ap (λ w. showing c (step_fault line w))
-      (sym (walk_told test facts (λ k n m small. name_shown r k n m small) 0 c.subject.house (names_of c.subject) (houses_of l) known many))
+      (sym (walk_told test facts (λ k n m small. name_shown r k n m small) 0 (subject_of c.statement).house (names_of (subject_of c.statement)) (houses_of l) known many))
 
   permit_judged : known_houses (houses_of l) ≡ true → (s : Statement) →
-      allowed line facts c (houses_of l) right s ≡ showing c (afterwards (permits right (bit_at rights 0 c.issuer) line s) (step_fault line (walked_by test l)))
-  permit_judged known (Name name) = walk_judged known
-  permit_judged known (Rights set d) =
-      rw (right_shown r true c.issuer (ranged c sound).issuer_known, walk_judged known) (by_tests (member right set) (bit_at rights 0 c.issuer))
+      allowed line facts c (houses_of l) access s ≡ showing c (afterwards (permits access (bit_at rights 0 c.issuer) line s) (step_fault line (walked_by test l)))
+  permit_judged known (Name who name) = walk_judged known
+  permit_judged known (Rights who set d) =
+      rw (right_shown r true c.issuer (ranged c sound).issuer_known, walk_judged known) (by_tests (member access.right set) (bit_at rights 0 c.issuer))
     where
       by_tests : (given able : Bool) →
           cond given (cond able (showing c (step_fault line (walked_by test l))) (Err (IssuerNotShown line))) (Err (NotGiven line))
@@ -84,17 +85,17 @@ module _ {cs : List Certificate} {facts : List Fact} {names rights : List ℕ} (
       by_tests true false = refl
       by_tests false able = refl
 
-  pub judged_by_lem : judged line facts c (houses_of l) day right ≡ showing c (judged_by test (bit_at rights 0 c.issuer) line day right l)
+  pub judged_by_lem : judged line facts c (houses_of l) access ≡ showing c (judged_by test (bit_at rights 0 c.issuer) line access l)
   judged_by_lem = by_known (known_houses (houses_of l)) refl
     where
       by_valid : (v : Bool) → known_houses (houses_of l) ≡ true →
-          cond v (allowed line facts c (houses_of l) right c.statement) (Err (NotValid line))
-          ≡ showing c (cond v (afterwards (permits right (bit_at rights 0 c.issuer) line c.statement) (step_fault line (walked_by test l))) (Err (NotValid line)))
+          cond v (allowed line facts c (houses_of l) access c.statement) (Err (NotValid line))
+          ≡ showing c (cond v (afterwards (permits access (bit_at rights 0 c.issuer) line c.statement) (step_fault line (walked_by test l))) (Err (NotValid line)))
       by_valid true known = permit_judged known c.statement
       by_valid false known = refl
 
       by_known : (b : Bool) → known_houses (houses_of l) ≡ b →
-          cond b (cond (valid day c) (allowed line facts c (houses_of l) right c.statement) (Err (NotValid line))) (Err (LineOutOfRange line))
-          ≡ showing c (cond b (cond (valid day c) (afterwards (permits right (bit_at rights 0 c.issuer) line c.statement) (step_fault line (walked_by test l))) (Err (NotValid line))) (Err (LineOutOfRange line)))
-      by_known true known = by_valid (valid day c) known
+          cond b (cond (valid access.day c) (allowed line facts c (houses_of l) access c.statement) (Err (NotValid line))) (Err (LineOutOfRange line))
+          ≡ showing c (cond b (cond (valid access.day c) (afterwards (permits access (bit_at rights 0 c.issuer) line c.statement) (step_fault line (walked_by test l))) (Err (NotValid line))) (Err (LineOutOfRange line)))
+      by_known true known = by_valid (valid access.day c) known
       by_known false known = refl

@@ -1,6 +1,7 @@
 -- One line is checked exactly: it is good where the bytes begin with those of a good line that can be written. Assumes nothing.
+use Rattle.certificates.specs.declared.access.Access.{Access}
 use Rattle.std.proofs.Common.{◌≡◌, ℕ, ◌^◌, ◌<◌, ◌≤◌, ltb, List, [], ◌∷◌, ◌++◌, length, Some, None, Ok, Err, Result, sym, refl, ap, ◌∙◌, append_assoc, arith}
-use Rattle.certificates.specs.Certificates.{WellFormed}
+use Rattle.certificates.specs.Certificates.{WellFormed, subject_of}
 use Rattle.certificates.specs.declared.Certificate.{Certificate}
 use Rattle.sheets.proofs.Formed.{names_at}
 use Rattle.sheets.proofs.Judged.{passed, judged_good, good_judged}
@@ -34,12 +35,12 @@ houses_taken : (k : ℕ) (s : List ℕ) → Bytes s → (houses rest : List ℕ)
     (length houses ≡ k) × (s ≡ flat_map (bytes 2) houses ++ rest)
 houses_taken k s small houses rest e = let (same, fits, is, w) = (names_part k).sound s small houses rest e in rw is (fits.0, w)
 
-module _ (cs : List Certificate) (day right : ℕ) where
+module _ (cs : List Certificate) (access : Access) where
   -- a good line that shows the fact and stands in front of the rest
   pub record GoodLine (facts : List Fact) (s : List ℕ) (fact : Fact) (rest : List ℕ) : Type 0 where
     pub line : Line
     pub writable : Writable cs line
-    pub is_good : Good cs day right facts line
+    pub is_good : Good cs access facts line
     pub is_fact : fact ≡ shows cs line
     pub is_bytes : s ≡ line_bytes line ++ rest
 
@@ -50,30 +51,30 @@ module _ (cs : List Certificate) (day right : ℕ) where
         (ap (λ q. Ok q.0) same, sym (ap (λ q. q.1) same))
     followed_ok rest (Err fault) p e = impossible (cc)
 
-    housed_ok : (number : ℕ) (t : Taken (List ℕ)) (p : Fact × List ℕ) → housed cs day right line facts number t ≡ Ok p →
-        (houses : List ℕ) × (t ≡ Some (houses, p.1)) × (judged line facts (certificate_at cs number) houses day right ≡ Ok p.0)
+    housed_ok : (number : ℕ) (t : Taken (List ℕ)) (p : Fact × List ℕ) → housed cs access line facts number t ≡ Ok p →
+        (houses : List ℕ) × (t ≡ Some (houses, p.1)) × (judged line facts (certificate_at cs number) houses access ≡ Ok p.0)
     housed_ok number None p e = impossible (cc)
     housed_ok number (Some q) p e =
-        let (j, same) = followed_ok q.1 (judged line facts (certificate_at cs number) q.0 day right) p e in
+        let (j, same) = followed_ok q.1 (judged line facts (certificate_at cs number) q.0 access) p e in
         (q.0, rw same, j)
 
-    numbered_ok : (t : Taken ℕ) (p : Fact × List ℕ) → numbered cs day right line facts t ≡ Ok p →
+    numbered_ok : (t : Taken ℕ) (p : Fact × List ℕ) → numbered cs access line facts t ≡ Ok p →
         (q : ℕ × List ℕ) × (t ≡ Some q) × (q.0 < length cs)
-        × (housed cs day right line facts q.0 (take_numbers (certificate_at cs q.0).subject.count q.1) ≡ Ok p)
+        × (housed cs access line facts q.0 (take_numbers (subject_of (certificate_at cs q.0).statement).count q.1) ≡ Ok p)
     numbered_ok None p e = impossible (cc)
     numbered_ok (Some q) p e =
         let (below, h) = passed (ltb q.0 (length cs)) _ (LineUnknown line) p e in
         (q, refl, ltb-true q.0 (length cs) below, h)
 
-    pub line_read : AllByRecursion WellFormed cs → (s : List ℕ) → Bytes s → (p : Fact × List ℕ) → line_checked cs day right line facts s ≡ Ok p →
+    pub line_read : AllByRecursion WellFormed cs → (s : List ℕ) → Bytes s → (p : Fact × List ℕ) → line_checked cs access line facts s ≡ Ok p →
         GoodLine facts s p.0 p.1
     line_read formed s small p e =
         let (q, e₁, below, h) = numbered_ok (take_number 2 s) p e in
         let w₁ = number_taken s small q.0 q.1 e₁ in
         let c = certificate_at cs q.0 in
-        let (houses, e₂, j) = housed_ok q.0 (take_numbers c.subject.count q.1) p h in
-        let (many, w₂) = houses_taken c.subject.count q.1 (bytes_rest (bytes 2 q.0) q.1 (rw w₁ at small)) houses p.1 e₂ in
-        let (known, g, is) = judged_good line facts c houses day right p.0 (many ∙ sym (names_at cs formed q.0 below)) j in
+        let (houses, e₂, j) = housed_ok q.0 (take_numbers (subject_of c.statement).count q.1) p h in
+        let (many, w₂) = houses_taken (subject_of c.statement).count q.1 (bytes_rest (bytes 2 q.0) q.1 (rw w₁ at small)) houses p.1 e₂ in
+        let (known, g, is) = judged_good line facts c houses access p.0 (many ∙ sym (names_at cs formed q.0 below)) j in
         record {
           line = record { certificate = q.0; houses = houses };
           writable = record { number = below; many = many; known = known };
@@ -82,8 +83,8 @@ module _ (cs : List Certificate) (day right : ℕ) where
           is_bytes = w₁ ∙ (ap (λ t. bytes 2 q.0 ++ t) w₂ ∙ sym (append_assoc (bytes 2 q.0) (flat_map (bytes 2) houses) p.1));
         }
 
-    pub read_line : length cs ≤ 1024 → (l : Line) → Writable cs l → Good cs day right facts l → (rest : List ℕ) →
-        line_checked cs day right line facts (line_bytes l ++ rest) ≡ Ok (shows cs l, rest)
+    pub read_line : length cs ≤ 1024 → (l : Line) → Writable cs l → Good cs access facts l → (rest : List ℕ) →
+        line_checked cs access line facts (line_bytes l ++ rest) ≡ Ok (shows cs l, rest)
     read_line few l w g rest =
         let n = l.certificate in
         let c = certificate_at cs n in
@@ -92,6 +93,6 @@ module _ (cs : List Certificate) (day right : ℕ) where
         let first : take_number 2 (line_bytes l ++ rest) ≡ Some (n, behind) =
         rw (append_assoc (bytes 2 n) (flat_map (bytes 2) l.houses) rest) ((number_part 2).complete n small behind) in
         let fit : AllByRecursion (λ h. h < 2 ^ 16) l.houses = All-weaker (λ h. h ≤ 1023) (λ h. h < 2 ^ 16) (λ h known. omega arith) l.houses (known_all l.houses w.known) in
-        let second : take_numbers c.subject.count behind ≡ Some (l.houses, rest) = (names_part c.subject.count).complete l.houses (w.many, fit) rest in
-        ap (numbered cs day right line facts) first ∙ (rw (lt-ltb n (length cs) w.number)
-        (ap (housed cs day right line facts n) second ∙ ap (followed rest) (good_judged line facts c l.houses day right w.known g)))
+        let second : take_numbers (subject_of c.statement).count behind ≡ Some (l.houses, rest) = (names_part (subject_of c.statement).count).complete l.houses (w.many, fit) rest in
+        ap (numbered cs access line facts) first ∙ (rw (lt-ltb n (length cs) w.number)
+        (ap (housed cs access line facts n) second ∙ ap (followed rest) (good_judged line facts c l.houses access w.known g)))

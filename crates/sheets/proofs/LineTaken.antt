@@ -1,4 +1,6 @@
 -- What reading the parts of a line says of its check. Assumes nothing.
+use Rattle.certificates.specs.Certificates.{subject_of}
+use Rattle.certificates.specs.declared.access.Access.{Access}
 use Rattle.std.proofs.Common.{◌≡◌, ℕ, zero, suc, ◌<◌, ◌≤◌, ltb, List, [], ◌∷◌, length, take, Some, None, sym, refl, ap, ◌∙◌}
 use Rattle.certificates.specs.declared.Certificate.{Certificate}
 use Rattle.sheets.proofs.Shown.{impossible}
@@ -31,23 +33,23 @@ taken_many (suc k) s numbers rest e = first (take_number 2 s) (λ r ns behind. t
     first (Some p) ih e' = later p.0 (take_numbers k p.1) (ih p.1) e'
 
 -- a line whose certificate and houses were read is still to be judged
-module _ (cs : List Certificate) (day right line : ℕ) (facts : List Fact) (s : List ℕ) (number : ℕ) (behind : List ℕ) (c : Certificate) (six : Six) (rest : List ℕ) where
-  pub line_taken : Some (number, behind) ≡ take_number 2 s → number < length cs → c ≡ certificate_at cs number → c.subject.count ≤ 6 →
-      Some (six, rest) ≡ and_then (take_numbers c.subject.count behind) keep_six →
-      line_checked cs day right line facts s ≡ followed rest (judged line facts c (take c.subject.count six.numbers) day right)
+module _ (cs : List Certificate) (access : Access) (line : ℕ) (facts : List Fact) (s : List ℕ) (number : ℕ) (behind : List ℕ) (c : Certificate) (six : Six) (rest : List ℕ) where
+  pub line_taken : Some (number, behind) ≡ take_number 2 s → number < length cs → c ≡ certificate_at cs number → (subject_of c.statement).count ≤ 6 →
+      Some (six, rest) ≡ and_then (take_numbers (subject_of c.statement).count behind) keep_six →
+      line_checked cs access line facts s ≡ followed rest (judged line facts c (take (subject_of c.statement).count six.numbers) access)
   line_taken read below is few houses =
-      ap (numbered cs day right line facts) (sym read)
+      ap (numbered cs access line facts) (sym read)
       ∙ (cond-true (ltb number (length cs)) _ _ (lt-ltb number (length cs) below)
-      ∙ (ap (λ (d : Certificate). housed cs day right line facts number (take_numbers d.subject.count behind)) (sym is)
-      ∙ judging (take_numbers c.subject.count behind) refl houses))
+      ∙ (ap (λ (d : Certificate). housed cs access line facts number (take_numbers (subject_of d.statement).count behind)) (sym is)
+      ∙ judging (take_numbers (subject_of c.statement).count behind) refl houses))
     where
-      judging : (t : Taken (List ℕ)) → take_numbers c.subject.count behind ≡ t → Some (six, rest) ≡ and_then t keep_six →
-          housed cs day right line facts number t ≡ followed rest (judged line facts c (take c.subject.count six.numbers) day right)
+      judging : (t : Taken (List ℕ)) → take_numbers (subject_of c.statement).count behind ≡ t → Some (six, rest) ≡ and_then t keep_six →
+          housed cs access line facts number t ≡ followed rest (judged line facts c (take (subject_of c.statement).count six.numbers) access)
       judging None taken e = impossible (cc)
       judging (Some p) taken e =
           let same : ◌≡◌ {A = Six × List ℕ} (six, rest) (record { numbers = places p.0 }, p.1) = cc in
-          let many : length p.0 ≡ c.subject.count = taken_many c.subject.count behind p.0 p.1 taken in
-          let front : take c.subject.count six.numbers ≡ p.0 =
-          ap (λ (q : Six × List ℕ). take c.subject.count q.0.numbers) same
+          let many : length p.0 ≡ (subject_of c.statement).count = taken_many (subject_of c.statement).count behind p.0 p.1 taken in
+          let front : take (subject_of c.statement).count six.numbers ≡ p.0 =
+          ap (λ (q : Six × List ℕ). take (subject_of c.statement).count q.0.numbers) same
           ∙ (ap (λ k. take k (places p.0)) (sym many) ∙ places_front p.0 (rw many few)) in
           rw (ap (λ (q : Six × List ℕ). q.1) same, front, is)

@@ -13,19 +13,19 @@ module _ (cs : List Certificate) (q : Question) (count : ℕ) (s names rights : 
   pub record Progress (facts₀ : List Fact) (line : ℕ) (rest names' rights' : List ℕ) : Type 0 where
     pub facts : List Fact
     pub remembers : Remembers cs facts names' rights'
-    pub same : lines_checked cs q.day q.right count 0 facts₀ s ≡ lines_checked cs q.day q.right (count - line) line facts rest
+    pub same : lines_checked cs q.access count 0 facts₀ s ≡ lines_checked cs q.access (count - line) line facts rest
 
   -- the same, whatever facts the memory held at the start
   abbrev pub SoFar : ℕ → List ℕ → List ℕ → List ℕ → Type 0
   SoFar line rest names' rights' = (facts₀ : List Fact) → Remembers cs facts₀ names rights → Progress facts₀ line rest names' rights'
 
   pub none_checked : SoFar 0 s names rights
-  none_checked facts₀ r = record { facts = facts₀; remembers = r; same = ap (λ n. lines_checked cs q.day q.right n 0 facts₀ s) (omega arith) }
+  none_checked facts₀ r = record { facts = facts₀; remembers = r; same = ap (λ n. lines_checked cs q.access n 0 facts₀ s) (omega arith) }
 
   module _ (line : ℕ) (rest names' rights' : List ℕ) (so : SoFar line rest names' rights') (below : line < count) where
     -- the first of the lines that are left
-    first_left : (facts : List Fact) → lines_checked cs q.day q.right (count - line) line facts rest
-        ≡ going facts (λ fact behind. lines_checked cs q.day q.right (count - (line + 1)) (line + 1) (fact ∷ facts) behind) (line_checked cs q.day q.right line facts rest)
+    first_left : (facts : List Fact) → lines_checked cs q.access (count - line) line facts rest
+        ≡ going facts (λ fact behind. lines_checked cs q.access (count - (line + 1)) (line + 1) (fact ∷ facts) behind) (line_checked cs q.access line facts rest)
     unfolding lines_checked
     first_left facts =
         let more : count - line ≡ suc (count - (line + 1)) = omega arith in
@@ -48,7 +48,7 @@ module _ (cs : List Certificate) (q : Question) (count : ℕ) (s names rights : 
     fault_found names'' rights'' fault passed facts₀ r =
         let before = so facts₀ r in
         let (is, kept-names, kept-rights) = passed before.facts before.remembers in
-        let end : lines_checked cs q.day q.right count 0 facts₀ s ≡ (before.facts, Err fault) = before.same ∙ (first_left before.facts ∙ ap (going before.facts _) is) in
+        let end : lines_checked cs q.access count 0 facts₀ s ≡ (before.facts, Err fault) = before.same ∙ (first_left before.facts ∙ ap (going before.facts _) is) in
         rw (end, kept-names, kept-rights) (refl, before.remembers)
 
   -- all lines are good
@@ -57,5 +57,5 @@ module _ (cs : List Certificate) (q : Question) (count : ℕ) (s names rights : 
   all_checked line rest names' rights' so past facts₀ r =
       let before = so facts₀ r in
       let none : count - line ≡ 0 = omega arith in
-      let end : lines_checked cs q.day q.right count 0 facts₀ s ≡ (before.facts, Ok rest) = before.same ∙ rw none in
+      let end : lines_checked cs q.access count 0 facts₀ s ≡ (before.facts, Ok rest) = before.same ∙ rw none in
       rw end (refl, before.remembers)

@@ -1,6 +1,6 @@
 -- Going through the houses and steps of a line: what is left gives the same as the whole. Assumes nothing.
 use Rattle.std.proofs.Common.{◌≡◌, ℕ, suc, ◌+◌, ◌≤◌, Bool, true, false, cond, ◌&&◌, leb, ◌⊎◌, List, [], ◌∷◌, length, Some, None, Ok, Err, Option, sym, refl, ap, ◌∙◌, ap₂, add-one, ⊎_elim}
-use Rattle.certificates.specs.Certificates.{names_of}
+use Rattle.certificates.specs.Certificates.{names_of, subject_of}
 use Rattle.sheets.proofs.Shown.{impossible}
 use Rattle.sheets.specs.Checking.{known_houses}
 use Rattle.sheets.specs.Reading.{houses_of, walk_by}
@@ -9,11 +9,9 @@ use Rattle.std.proofs.lemmas.List.{length-take-le}
 use Rattle.std.specs.List.{list_all}
 
 -- there is a house for each name
-pub paired : (l : Line) → l.certificate.subject.count ≤ length l.certificate.subject.names → l.certificate.subject.count ≤ length l.houses.numbers →
-    length (names_of l.certificate.subject) ≡ length (houses_of l)
-paired l named housed =
-    let count = l.certificate.subject.count in
-    length-take-le count l.certificate.subject.names named ∙ sym (length-take-le count l.houses.numbers housed)
+pub paired : (l : Line) → length (names_of (subject_of l.certificate.now.statement)) ≡ (subject_of l.certificate.now.statement).count →
+    (subject_of l.certificate.now.statement).count ≤ length l.houses.numbers → length (names_of (subject_of l.certificate.now.statement)) ≡ length (houses_of l)
+paired l named housed = named ∙ sym (length-take-le (subject_of l.certificate.now.statement).count l.houses.numbers housed)
 
 known_houses_all : (houses : List ℕ) → known_houses houses ≡ list_all (λ h. leb h 1023) houses
 unfolding known_houses

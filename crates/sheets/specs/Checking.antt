@@ -1,8 +1,8 @@
 -- The check of a sheet that comes as bytes. Assumes nothing.
 use Rattle.std.specs.Prelude.{ℕ, zero, suc, Bool, true, cond, ◌&&◌, List, [], ◌∷◌, length, Some, None, Ok, Err, Option, Result, nat_le, nat_lt}
-use Rattle.certificates.specs.Certificates.{names_of, valid}
-use Rattle.certificates.specs.Rights.{member}
+use Rattle.certificates.specs.Certificates.{names_of, subject_of, valid, grants}
 use Rattle.certificates.specs.declared.Certificate.{Certificate}
+use Rattle.certificates.specs.declared.access.Access.{Access}
 use Rattle.certificates.specs.declared.Statement.{Statement}
 use Rattle.certificates.specs.declared.Statement.TheVariants.{Name, Rights}
 use Rattle.sheets.specs.Facts.{Fact, NameMeans, HasRight, shown}
@@ -26,20 +26,20 @@ unshown facts house (n ∷ names) (h ∷ houses) = cond (shown (NameMeans house 
 -- a line's number, the facts that the lines above it show, its certificate and its houses
 module _ (line : ℕ) (facts : List Fact) (c : Certificate) (houses : List ℕ) where
   abbrev pub stepped : Option ℕ → Result Fact Fault
-  stepped None = Ok (fact_of c (reached c.subject.house houses))
+  stepped None = Ok (fact_of c (reached (subject_of c.statement).house houses))
   stepped (Some step) = Err (StepNotShown line step)
 
   abbrev pub walked : Result Fact Fault
-  walked = stepped (unshown facts c.subject.house (names_of c.subject) houses)
+  walked = stepped (unshown facts (subject_of c.statement).house (names_of (subject_of c.statement)) houses)
 
-  abbrev pub allowed : ℕ → Statement → Result Fact Fault
-  allowed right (Name name) = walked
-  allowed right (Rights set delegable) =
-      cond (member right set) (cond (shown (HasRight true c.issuer) facts) walked (Err (IssuerNotShown line))) (Err (NotGiven line))
+  abbrev pub allowed : Access → Statement → Result Fact Fault
+  allowed access (Name who name) = walked
+  allowed access (Rights who set delegable) =
+      cond (grants access (Rights who set delegable)) (cond (shown (HasRight true c.issuer) facts) walked (Err (IssuerNotShown line))) (Err (NotGiven line))
 
   -- what the line shows, or the lowest number of its faults
-  abbrev pub judged : ℕ → ℕ → Result Fact Fault
-  judged day right = cond (known_houses houses) (cond (valid day c) (allowed right c.statement) (Err (NotValid line))) (Err (LineOutOfRange line))
+  abbrev pub judged : Access → Result Fact Fault
+  judged access = cond (known_houses houses) (cond (valid access.day c) (allowed access c.statement) (Err (NotValid line))) (Err (LineOutOfRange line))
 
 abbrev pub followed : List ℕ → Result Fact Fault → Result (Fact × List ℕ) Fault
 followed rest (Ok fact) = Ok (fact, rest)
@@ -53,16 +53,16 @@ abbrev pub going : List Fact → (Fact → List ℕ → Checked) → Result (Fac
 going facts next (Ok p) = next p.0 p.1
 going facts next (Err fault) = (facts, Err fault)
 
--- the certificates, the day and the right that is asked for
-module _ (cs : List Certificate) (day right : ℕ) where
+-- the certificates, and what is asked for
+module _ (cs : List Certificate) (access : Access) where
   abbrev pub housed : ℕ → List Fact → ℕ → Taken (List ℕ) → Result (Fact × List ℕ) Fault
   housed line facts number None = Err (LineCut line)
-  housed line facts number (Some p) = followed p.1 (judged line facts (certificate_at cs number) p.0 day right)
+  housed line facts number (Some p) = followed p.1 (judged line facts (certificate_at cs number) p.0 access)
 
   abbrev pub numbered : ℕ → List Fact → Taken ℕ → Result (Fact × List ℕ) Fault
   numbered line facts None = Err (LineCut line)
   numbered line facts (Some p) =
-      cond (nat_lt p.0 (length cs)) (housed line facts p.0 (take_numbers (certificate_at cs p.0).subject.count p.1)) (Err (LineUnknown line))
+      cond (nat_lt p.0 (length cs)) (housed line facts p.0 (take_numbers (subject_of (certificate_at cs p.0).statement).count p.1)) (Err (LineUnknown line))
 
   -- one line: what it shows and what follows it, or its fault
   abbrev pub line_checked : ℕ → List Fact → List ℕ → Result (Fact × List ℕ) Fault
@@ -80,7 +80,7 @@ concluded house facts (Ok (b ∷ rest)) = Err Malformed
 concluded house facts (Ok []) = cond (entitled house facts) (Ok tt) (Err HouseNotShown)
 
 -- the facts that a sheet of some lines shows, and whether it holds for the house
-abbrev pub check_sheet : List Certificate → ℕ → ℕ → ℕ → ℕ → ℕ → List ℕ → List Fact × Result (Unit {0}) Fault
-check_sheet cs day right owner house count s =
-    let done = lines_checked cs day right count 0 (start owner) s in
+abbrev pub check_sheet : List Certificate → Access → ℕ → ℕ → List ℕ → List Fact × Result (Unit {0}) Fault
+check_sheet cs access house count s =
+    let done = lines_checked cs access count 0 (start access.owner) s in
     (done.0, concluded house done.0 done.1)

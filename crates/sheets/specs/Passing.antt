@@ -31,9 +31,9 @@ module _ (cs : List Certificate) (q : Question) where
   -- a good line is remembered too, and one that is not leaves the memory as it was
   abbrev pub AfterLine : List Fact → ℕ → List ℕ → List ℕ → List ℕ → List ℕ → List ℕ → Result (List ℕ) Fault → Type 0
   AfterLine facts line s names rights names' rights' (Ok rest) =
-      (fact : Fact) × (line_checked cs q.day q.right line facts s ≡ Ok (fact, rest)) × Remembers cs (fact ∷ facts) names' rights'
+      (fact : Fact) × (line_checked cs q.access line facts s ≡ Ok (fact, rest)) × Remembers cs (fact ∷ facts) names' rights'
   AfterLine facts line s names rights names' rights' (Err fault) =
-      (line_checked cs q.day q.right line facts s ≡ Err fault) × (names' ≡ names) × (rights' ≡ rights)
+      (line_checked cs q.access line facts s ≡ Err fault) × (names' ≡ names) × (rights' ≡ rights)
 
   -- one line, whatever facts the memory holds
   abbrev pub LinePassed : ℕ → List ℕ → List ℕ → List ℕ → List ℕ → List ℕ → Result (List ℕ) Fault → Type 0
@@ -44,7 +44,7 @@ module _ (cs : List Certificate) (q : Question) where
   abbrev pub LinesPassed : ℕ → List ℕ → List ℕ → List ℕ → List ℕ → List ℕ → Result (List ℕ) Fault → Type 0
   LinesPassed count s names rights names' rights' r =
       (facts : List Fact) → Remembers cs facts names rights →
-      ((lines_checked cs q.day q.right count 0 facts s).1 ≡ r) × Remembers cs (lines_checked cs q.day q.right count 0 facts s).0 names' rights'
+      ((lines_checked cs q.access count 0 facts s).1 ≡ r) × Remembers cs (lines_checked cs q.access count 0 facts s).0 names' rights'
 
 -- the house is shown to have the right, by the memory of rights
 abbrev pub entitled_by : List ℕ → ℕ → Bool
@@ -56,7 +56,7 @@ concluded_by entitled [] = cond entitled (Ok tt) (Err HouseNotShown)
 
 -- houses and a right that there may be
 abbrev pub askable : Question → Bool
-askable q = nat_le q.owner 1023 && (nat_le q.house 1023 && nat_le q.right 63)
+askable q = nat_le q.access.owner 1023 && (nat_le q.house 1023 && nat_le q.access.right 63)
 
 -- memory of enough words, all zero
 pub record Wiped (memory : List ℕ) : Type 0 where
@@ -65,7 +65,7 @@ pub record Wiped (memory : List ℕ) : Type 0 where
 
 -- the facts that the sheet shows, and whether it holds
 abbrev pub check_for : List Certificate → Question → ℕ → List ℕ → List Fact × Result (Unit {0}) Fault
-check_for cs q count s = check_sheet cs q.day q.right q.owner q.house count s
+check_for cs q count s = check_sheet cs q.access q.house count s
 
 -- the answer is that of the definition, and the memory holds the facts that the good lines show
 pub record Done (cs : List Certificate) (q : Question) (count : ℕ) (s memory : List ℕ) (r : Result (Unit {0}) Fault) : Type 0 where

@@ -1,14 +1,11 @@
 -- What reading a line leaves to be judged. Assumes nothing.
 use Rattle.std.specs.Prelude.{◌≡◌, ℕ, zero, suc, ◌<◌, Bool, true, cond, List, [], ◌∷◌, length, take, Some, None, Ok, Err, Option, Result, nat_lt}
-use Rattle.certificates.specs.Certificates.{names_of, in_range}
+use Rattle.certificates.specs.Certificates.{names_of, subject_of, in_range}
 use Rattle.certificates.specs.declared.Certificate.{Certificate}
-use Rattle.sheets.specs.Checking.{followed, judged}
-use Rattle.sheets.specs.Facts.{Fact}
 use Rattle.sheets.specs.Sheets.{certificate_at}
 use Rattle.sheets.specs.declared.line.Line.{Line}
 use Rattle.std.specs.Option.{option_map}
 use Rattle.wire.specs.Numbers.{Taken, take_number, take_numbers}
-use Rattle.wire.specs.declared.faults.Fault.{Fault}
 use Rattle.std.specs.Borrow.{Bor}
 
 -- one of the certificates, with values that it may have
@@ -20,12 +17,7 @@ pub record Kept (cs : List Certificate) (c : Certificate) : Type 0 where
 
 -- the houses of a line that was read: as many as its certificate's subject has names
 abbrev pub houses_of : Line → List ℕ
-houses_of l = take l.certificate.subject.count l.houses.numbers
-
--- a line that was read is still to be judged; one that was not has its fault
-abbrev pub outcome_of : ℕ → ℕ → ℕ → List Fact → Result (Line × Bor (List ℕ)) Fault → Result (Fact × List ℕ) Fault
-outcome_of day right line facts (Ok p) = followed p.1.now (judged line facts p.0.certificate (houses_of p.0) day right)
-outcome_of day right line facts (Err fault) = Err fault
+houses_of l = take (subject_of l.certificate.now.statement).count l.houses.numbers
 
 -- steps by a test of each: the last house reached, or the first step that fails, counted on from i
 unfoldable pub walk_by : (ℕ → ℕ → ℕ → Bool) → ℕ → ℕ → List ℕ → List ℕ → Result ℕ ℕ
@@ -35,7 +27,7 @@ walk_by test i house (n ∷ names) (h ∷ houses) = cond (test house n h) (walk_
 
 -- the steps of a line that was read
 abbrev pub walked_by : (ℕ → ℕ → ℕ → Bool) → Line → Result ℕ ℕ
-walked_by test l = walk_by test 0 l.certificate.subject.house (names_of l.certificate.subject) (houses_of l)
+walked_by test l = walk_by test 0 (subject_of l.certificate.now.statement).house (names_of (subject_of l.certificate.now.statement)) (houses_of l)
 
 -- a line that is walked over: what follows it, where its certificate is there and its bytes are not cut
 abbrev pub past_houses : Taken (List ℕ) → Option (List ℕ)
@@ -44,7 +36,7 @@ past_houses (Some p) = Some p.1
 
 abbrev pub past_number : List Certificate → Taken ℕ → Option (List ℕ)
 past_number cs None = None
-past_number cs (Some p) = cond (nat_lt p.0 (length cs)) (past_houses (take_numbers (certificate_at cs p.0).subject.count p.1)) None
+past_number cs (Some p) = cond (nat_lt p.0 (length cs)) (past_houses (take_numbers (subject_of (certificate_at cs p.0).statement).count p.1)) None
 
 abbrev pub line_skipped : List Certificate → List ℕ → Option (List ℕ)
 line_skipped cs s = past_number cs (take_number 2 s)

@@ -8,12 +8,13 @@ ghost use Rattle.sheets.specs.Passing.{names_after, rights_after, LinePassed, Li
 
 use crate::line::Line;
 use crate::memory::{DELEGATORS, HOLDERS, Shown, note};
-use crate::reading::read_line;
 use certificates::LAST_HOUSE;
+use certificates::access::Access;
 use certificates::rights::LAST_RIGHT;
 use facts::{is_shown, show, wipe};
 use registry::Registry;
 use wire::faults::Fault;
+use wire::numbers::{read, read_u16s};
 
 // The words of lent memory that a check needs: sixteen for each of 1,024 rows.
 pub const MEMORY_WORDS: usize = 16384;
@@ -21,9 +22,7 @@ pub const MEMORY_WORDS: usize = 16384;
 // What is asked of a sheet: whether it shows that the house has the owner's right on the day.
 #[derive(Clone, Copy)]
 pub struct Question {
-    pub day: u32,
-    pub owner: u16,
-    pub right: u8,
+    pub access: Access,
     pub house: u16,
 }
 
@@ -32,7 +31,9 @@ impl Question {
     pub fn in_range(&self) -> bool
         ensures { result ≡ askable self.now }
     {
-        self.owner <= LAST_HOUSE && self.house <= LAST_HOUSE && self.right <= LAST_RIGHT
+        self.access.owner <= LAST_HOUSE
+            && self.house <= LAST_HOUSE
+            && self.access.right <= LAST_RIGHT
     }
 }
 
@@ -67,21 +68,22 @@ impl Checker<'_> {
         number: u32,
         line: &Line,
     ) -> Result<u16, Fault>
-        ensures value { result ≡ judged_by (remembered (certificates_of self.now.registry.now) names.old) (bit_at rights.old 0 line.now.certificate.issuer) number self.now.question.now.day self.now.question.now.right line.now }
-        ensures names { names.new ≡ names_after (certificates_of self.now.registry.now) line.now.certificate result names.old }
-        ensures rights { rights.new ≡ rights_after line.now.certificate result rights.old }
+        ensures value { result ≡ judged_by (remembered (certificates_of self.now.registry.now) names.old) (bit_at rights.old 0 line.now.certificate.now.issuer) number self.now.question.now.access line.now }
+        ensures names { names.new ≡ names_after (certificates_of self.now.registry.now) line.now.certificate.now result names.old }
+        ensures rights { rights.new ≡ rights_after line.now.certificate.now result rights.old }
     {
         let shown = Shown {
             registry: self.registry,
             names,
             rights,
         };
-        let last = shown.judge(self.question, number, line)?;
-        note(self.registry, &line.certificate, last, names, rights);
+        let last = shown.judge(&self.question.access, number, line)?;
+        note(self.registry, line.certificate, last, names, rights);
         Ok(last)
     }
 
-    // Checks one line by the facts in memory, and notes what it shows; gives what follows it.
+    // Reads a line and checks it by the facts in memory, and notes what it shows; gives what follows it.
+    // A reader's answer is taken apart by `let .. else`, a rule of the project.
     fn check_line<'b>(
         &self,
         names: &mut [u64],
@@ -91,7 +93,20 @@ impl Checker<'_> {
     ) -> Result<&'b [u8], Fault>
         ensures { LinePassed (certificates_of self.now.registry.now) self.now.question.now number bytes.now names.old rights.old names.new rights.new (rest_of result) }
     {
-        let (line, rest) = read_line(self.registry, number, bytes)?;
+        let Some((named, rest)) = read::<u16, 2>(bytes) else {
+            return Err(Fault::LineCut { line: number });
+        };
+        let Some(certificate) = self.registry.get(named) else {
+            return Err(Fault::LineUnknown { line: number });
+        };
+        let steps = certificate.statement.subject().names().len();
+        let Some((houses, rest)) = read_u16s(steps as u8, rest) else {
+            return Err(Fault::LineCut { line: number });
+        };
+        let line = Line {
+            certificate,
+            houses,
+        };
         self.judge_then_note(names, rights, number, &line)?;
         Ok(rest)
     }
@@ -120,7 +135,7 @@ impl Checker<'_> {
         ensures { Done (certificates_of self.now.registry.now) self.now.question.now count lines.now memory.new result }
     {
         let mut rights = [0; 32];
-        show(&mut rights, DELEGATORS, self.question.owner);
+        show(&mut rights, DELEGATORS, self.question.access.owner);
         let rest = self.check_lines(memory, &mut rights, count, lines)?;
         conclude(self.question.house, &rights, rest)
     }

@@ -5,22 +5,22 @@ ghost use Rattle.sheets.specs.Judging.{permits, judged_by};
 ghost use Rattle.sheets.specs.Memory.{remembered};
 ghost use Rattle.std.specs.Prelude.{◌≡◌};
 
-use crate::checking::Question;
 use crate::line::Line;
 use crate::memory::{DELEGATORS, Shown};
+use certificates::access::Access;
 use certificates::{Certificate, Statement};
 use facts::is_shown;
 use wire::faults::Fault;
 
 impl Shown<'_> {
     // Whether the issuer of the line's certificate may say what it says.
-    fn permit(&self, certificate: &Certificate, right: u8, number: u32) -> Result<(), Fault>
-        ensures { result ≡ permits right (bit_at self.now.rights.now 0 certificate.now.issuer) number certificate.now.statement }
+    fn permit(&self, certificate: &Certificate, access: &Access, number: u32) -> Result<(), Fault>
+        ensures { result ≡ permits access.now (bit_at self.now.rights.now 0 certificate.now.issuer) number certificate.now.statement }
     {
-        if let Statement::Name(_) = certificate.statement {
+        if let Statement::Name { .. } = certificate.statement {
             return Ok(());
         }
-        if !certificate.gives(right) {
+        if !certificate.gives(access) {
             return Err(Fault::NotGiven { line: number });
         }
         if !is_shown(self.rights, DELEGATORS, certificate.issuer) {
@@ -30,16 +30,16 @@ impl Shown<'_> {
     }
 
     // The last house that a good line reaches, or the lowest number of its faults.
-    pub(crate) fn judge(&self, question: &Question, number: u32, line: &Line) -> Result<u16, Fault>
-        ensures { result ≡ judged_by (remembered (certificates_of self.now.registry.now) self.now.names.now) (bit_at self.now.rights.now 0 line.now.certificate.issuer) number question.now.day question.now.right line.now }
+    pub(crate) fn judge(&self, access: &Access, number: u32, line: &Line) -> Result<u16, Fault>
+        ensures { result ≡ judged_by (remembered (certificates_of self.now.registry.now) self.now.names.now) (bit_at self.now.rights.now 0 line.now.certificate.now.issuer) number access.now line.now }
     {
         if !line.known() {
             return Err(Fault::LineOutOfRange { line: number });
         }
-        if !line.certificate.valid_on(question.day) {
+        if !line.certificate.valid_on(access.day) {
             return Err(Fault::NotValid { line: number });
         }
-        self.permit(&line.certificate, question.right, number)?;
+        self.permit(line.certificate, access, number)?;
         self.walk(line)
             .map_err(|step| Fault::StepNotShown { line: number, step })
     }

@@ -7,8 +7,8 @@ use wire::numbers::Six;
 
 // A certificate in range, and the house reached after each name of its subject, with zeros behind them.
 #[derive(Clone, Copy)]
-pub struct Line {
-    pub certificate: Certificate,
+pub struct Line<'a> {
+    pub certificate: &'a Certificate,
     pub houses: Six,
-    ghost sound: { in_range certificate ≡ true },
+    ghost sound: { in_range certificate.now ≡ true },
 }

@@ -40,7 +40,7 @@ pub(crate) fn note(
     ensures rights { rights.new ≡ note_right (fact_of certificate.now last) rights.old }
 {
     match certificate.statement {
-        Statement::Name(name) => {
+        Statement::Name { name, .. } => {
             if let Some(row) = registry.row(certificate.issuer, name) {
                 show(names, row, last);
             }

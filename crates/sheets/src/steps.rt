@@ -1,6 +1,6 @@
 // The steps of a line: from the subject's house by each of its names to the next house.
 ghost use Rattle.std.specs.Prelude.{◌≡◌, ◌≤◌, length, if◌then◌else◌, Some, None, nat_le};
-ghost use Rattle.certificates.specs.Certificates.{names_of};
+ghost use Rattle.certificates.specs.Certificates.{names_of, subject_of};
 ghost use Rattle.registry.specs.Numbered.{certificates_of};
 ghost use Rattle.sheets.specs.Checking.{known_houses};
 ghost use Rattle.sheets.specs.Memory.{remembered};
@@ -18,12 +18,12 @@ fn is_house(number: u16) -> bool
     number <= LAST_HOUSE
 }
 
-impl Line {
+impl Line<'_> {
     // The names of its certificate's subject.
     fn names(&self) -> &[u16]
-        ensures { result.now ≡ names_of self.now.certificate.subject }
+        ensures { result.now ≡ names_of (subject_of self.now.certificate.now.statement) }
     {
-        self.certificate.subject.names()
+        self.certificate.statement.subject().names()
     }
 
     // The house reached after each of them.
@@ -31,7 +31,8 @@ impl Line {
         ensures value { result.now ≡ houses_of self.now }
         ensures few { length result.now ≤ 6 }
     {
-        self.houses.front(self.certificate.subject.count)
+        self.houses
+            .front(self.certificate.statement.subject().count)
     }
 
     // Whether no house of it is above 1,023.
@@ -55,7 +56,7 @@ impl Shown<'_> {
     pub(crate) fn walk(&self, line: &Line) -> Result<u16, u8>
         ensures { result ≡ walked_by (remembered (certificates_of self.now.registry.now) self.now.names.now) line.now }
     {
-        let mut at = line.certificate.subject.house;
+        let mut at = line.certificate.statement.subject().house;
         for (step, (name, house)) in line.names().iter().zip(line.houses()).enumerate() {
             // Not by `ok_or` and `?`: the proof would have to go through the conversion of the error.
             let Some(reached) = self.step(at, *name, *house) else {

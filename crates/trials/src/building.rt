@@ -1,4 +1,5 @@
 // What the tests ask with: certificates, questions, a gate and deliveries, in few words.
+use certificates::access::Access;
 use certificates::{Certificate, Statement, Subject};
 use gates::Gate;
 use registry::Registry;
@@ -15,10 +16,11 @@ pub(crate) fn check(holds: bool, note: &str) -> Result<(), Fail> {
 }
 
 // Right 3 alone is given.
-fn right_3(delegable: bool) -> Statement {
+fn right_3(delegable: bool, subject: Subject) -> Statement {
     Statement::Rights {
         rights: 8,
         delegable,
+        subject,
     }
 }
 
@@ -44,11 +46,10 @@ pub(crate) fn by_two(house: u16, name: u16, then: u16) -> Subject {
     subject(house, [name, then, 0, 0, 0, 0], 2)
 }
 
-// A certificate valid from day 4 to day 9. Issuer and subject are parts of what is made here, so they go side by side.
-pub(crate) fn certificate(issuer: u16, subject: Subject, statement: Statement) -> Certificate {
+// A certificate valid from day 4 to day 9.
+pub(crate) fn certificate(issuer: u16, statement: Statement) -> Certificate {
     Certificate {
         issuer,
-        subject,
         first: 4,
         last: 9,
         statement,
@@ -56,16 +57,16 @@ pub(crate) fn certificate(issuer: u16, subject: Subject, statement: Statement) -
 }
 
 pub(crate) fn names(issuer: u16, name: u16, subject: Subject) -> Certificate {
-    certificate(issuer, subject, Statement::Name(name))
+    certificate(issuer, Statement::Name { subject, name })
 }
 
 // Right 3 given to be passed on, or to be had only.
 pub(crate) fn gives(issuer: u16, subject: Subject) -> Certificate {
-    certificate(issuer, subject, right_3(true))
+    certificate(issuer, right_3(true, subject))
 }
 
 pub(crate) fn gives_only(issuer: u16, subject: Subject) -> Certificate {
-    certificate(issuer, subject, right_3(false))
+    certificate(issuer, right_3(false, subject))
 }
 
 // The certificates, numbered as they stand.
@@ -80,15 +81,26 @@ pub(crate) fn registry_of(heap: Global, certificates: &[Certificate]) -> Result<
 // Whether the house has the owner's right on day 9.
 pub(crate) fn asked(owner: u16, right: u8, house: u16) -> Question {
     Question {
-        day: 9,
-        owner,
-        right,
+        access: Access {
+            day: 9,
+            owner,
+            right,
+        },
         house,
     }
 }
 
 pub(crate) fn may(house: u16) -> Question {
     asked(1, 3, house)
+}
+
+// The same on another day.
+pub(crate) fn may_on(day: u32, house: u16) -> Question {
+    let question = may(house);
+    Question {
+        access: question.access.on_day(day),
+        ..question
+    }
 }
 
 // The gate of house 1, as it begins.

@@ -13,7 +13,7 @@ fn read_and_written(
     bytes: &[u8],
     meant: Certificate,
 ) -> Result<(), Fail> {
-    let Ok((event, rest)) = read_event(bytes) else {
+    let Some((Ok(event), rest)) = read_event(bytes) else {
         return Err(Fail::new("refused"));
     };
     assert!(rt; rest.is_empty(), "bytes left over");
@@ -28,10 +28,12 @@ fn read_as_written(rt: HostRuntime) -> Result<(), Fail> {
     // the smallest value of every field
     let smallest = Certificate {
         issuer: 0,
-        subject: subject(0, [0, 0, 0, 0, 0, 0], 0),
         first: 0,
         last: 0,
-        statement: Statement::Name(0),
+        statement: Statement::Name {
+            name: 0,
+            subject: subject(0, [0, 0, 0, 0, 0, 0], 0),
+        },
     };
     read_and_written(
         &rt,
@@ -42,12 +44,12 @@ fn read_as_written(rt: HostRuntime) -> Result<(), Fail> {
     let most = 65535;
     let largest = Certificate {
         issuer: 1023,
-        subject: subject(1023, [most, most, most, most, most, most], 6),
         first: 4294967295,
         last: 4294967295,
         statement: Statement::Rights {
             rights: 18446744073709551615,
             delegable: true,
+            subject: subject(1023, [most, most, most, most, most, most], 6),
         },
     };
     let bytes =
@@ -56,10 +58,12 @@ fn read_as_written(rt: HostRuntime) -> Result<(), Fail> {
     // every byte another, so that no two can change places
     let uneven = Certificate {
         issuer: 258,
-        subject: subject(772, [1286, 1800, 0, 0, 0, 0], 2),
         first: 151653132,
         last: 219025168,
-        statement: Statement::Name(4370),
+        statement: Statement::Name {
+            name: 4370,
+            subject: subject(772, [1286, 1800, 0, 0, 0, 0], 2),
+        },
     };
     let bytes =
         b"\x01\x01\x02\x09\x0a\x0b\x0c\x0d\x0e\x0f\x10\x03\x04\x02\x05\x06\x07\x08\x00\x11\x12";
@@ -67,12 +71,12 @@ fn read_as_written(rt: HostRuntime) -> Result<(), Fail> {
     // rights without the flag, the last day before the first
     let plain = Certificate {
         issuer: 5,
-        subject: subject(6, [7, 0, 0, 0, 0, 0], 1),
         first: 9,
         last: 3,
         statement: Statement::Rights {
             rights: 72623859790382856,
             delegable: false,
+            subject: subject(6, [7, 0, 0, 0, 0, 0], 1),
         },
     };
     let bytes =

@@ -1,15 +1,18 @@
 // Bytes that are no event, or an event with a value that it may not have.
 use std::process::Abort;
 use std::test::*;
+use wire::faults::Fault;
 use wire::reading::read_event;
 
 // The number of the fault, and that this many bytes are read on.
 fn refused(rt: &impl Abort, bytes: &[u8], number: u8, left: usize) -> Result<(), Fail> {
-    let Err(refusal) = read_event(bytes) else {
-        return Err(Fail::new("not refused"));
+    let (fault, rest) = match read_event(bytes) {
+        None => (Fault::Malformed, &bytes[..0]),
+        Some((Err(fault), rest)) => (fault, rest),
+        Some((Ok(_), _)) => return Err(Fail::new("not refused")),
     };
-    assert_eq!(rt; refusal.fault.told().number, number);
-    assert_eq!(rt; refusal.rest.len(), left);
+    assert_eq!(rt; fault.told().number, number);
+    assert_eq!(rt; rest.len(), left);
     Ok(())
 }
 

@@ -126,5 +126,10 @@ fn sheet_opens(rt: HostRuntime) -> Result<(), Fail> {
     let answer = asked.gate.answer(whole, asked.names.as_mut_slice())?;
     let text = format!(in rt.alloc(); "{answer}")?;
     assert_eq!(rt; text.as_str(), "open");
+    // the same bytes behind the kind of something else are no request
+    let other = b"\x09\x00\x02\x03\x00\x00\x00\x01\x00\x00";
+    let answer = asked.gate.answer(other, asked.names.as_mut_slice())?;
+    let text = format!(in rt.alloc(); "{answer}")?;
+    assert_eq!(rt; text.as_str(), "1");
     Ok(())
 }

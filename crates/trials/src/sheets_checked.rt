@@ -1,6 +1,7 @@
 // Sheets whose bytes are written out by hand: each holds, or is refused with the fault that is told of it.
 use crate::building::{
-    asked, by, by_two, certificate, check, gives, gives_only, may, names, plain, registry_of,
+    asked, by, by_two, certificate, check, gives, gives_only, may, may_on, names, plain,
+    registry_of,
 };
 use certificates::{Certificate, Statement};
 use registry::Registry;
@@ -116,15 +117,10 @@ fn rights_passed_on(rt: HostRuntime) -> Result<(), Fail> {
 fn days(rt: HostRuntime) -> Result<(), Fail> {
     let mut desk = Desk::new(rt.alloc(), &[names(1, 5, plain(2)), gives(1, plain(2))])?;
     // the first day and the last, then the days beside them
-    desk.holds(Question { day: 4, ..may(2) }, 1, b"\x00\x01")?;
-    desk.holds(Question { day: 9, ..may(2) }, 1, b"\x00\x01")?;
-    desk.refuses(Question { day: 3, ..may(2) }, 1, b"\x00\x01", of_line(0, 7))?;
-    desk.refuses(
-        Question { day: 10, ..may(2) },
-        1,
-        b"\x00\x01",
-        of_line(0, 7),
-    )?;
+    desk.holds(may_on(4, 2), 1, b"\x00\x01")?;
+    desk.holds(may_on(9, 2), 1, b"\x00\x01")?;
+    desk.refuses(may_on(3, 2), 1, b"\x00\x01", of_line(0, 7))?;
+    desk.refuses(may_on(10, 2), 1, b"\x00\x01", of_line(0, 7))?;
     // one that is taken back, behind one that is not
     desk.registry.revoke(1)?;
     desk.refuses(may(2), 1, b"\x00\x01", of_line(0, 7))?;
@@ -136,14 +132,15 @@ fn troubled() -> [Certificate; 7] {
     let right_2 = Statement::Rights {
         rights: 4,
         delegable: true,
+        subject: plain(2),
     };
     [
         names(1, 5, plain(2)),
         gives(1, by_two(1, 5, 6)),
-        certificate(1, plain(2), right_2),
+        certificate(1, right_2),
         gives(3, plain(2)),
         gives(1, plain(2)),
-        certificate(3, plain(2), right_2),
+        certificate(3, right_2),
         gives(3, by(1, 5)),
     ]
 }
@@ -172,7 +169,7 @@ fn every_fault(rt: HostRuntime) -> Result<(), Fail> {
     desk.refuses(may(2), 1, b"\x00\x04\xff", of_all(1))?;
     desk.refuses(may(2), 1, b"\x00\x00", of_all(11))?;
     // of several faults the lowest: not valid, and cut, with house 1024, of another right
-    let late = Question { day: 10, ..may(2) };
+    let late = may_on(10, 2);
     desk.refuses(late, 1, b"\x00\x01\x04\x00\x04", of_line(0, 1))?;
     desk.refuses(late, 1, b"\x00\x01\x00\x02\x04\x00", of_line(0, 2))?;
     desk.refuses(late, 1, b"\x00\x02", of_line(0, 7))?;

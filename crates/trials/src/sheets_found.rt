@@ -1,6 +1,6 @@
 // Sheets that are found: the request is written as the bytes that are written out by hand, and its sheet holds.
 use crate::building::{
-    NUMBERS, asked, by, by_two, check, gives, gives_only, may, names, plain, registry_of,
+    NUMBERS, asked, by, by_two, check, gives, gives_only, may, may_on, names, plain, registry_of,
 };
 use certificates::Certificate;
 use finding::sheets_found::{Unfound, find};
@@ -112,9 +112,9 @@ fn worked_cases(rt: HostRuntime) -> Result<(), Fail> {
     finder.finds(may(2), b"\x00\x00\x00\x01\x00\x00")?;
     finder.finds_none(may(4))?;
     // the first day and the last, then the days beside them
-    finder.finds(Question { day: 4, ..may(2) }, b"\x00\x00\x00\x01\x00\x00")?;
-    finder.finds_none(Question { day: 3, ..may(2) })?;
-    finder.finds_none(Question { day: 10, ..may(2) })
+    finder.finds(may_on(4, 2), b"\x00\x00\x00\x01\x00\x00")?;
+    finder.finds_none(may_on(3, 2))?;
+    finder.finds_none(may_on(10, 2))
 }
 
 #[test]

@@ -13,10 +13,12 @@ use std::test::*;
 fn names(issuer: u16, name: u16, house: u16, names: [u16; 6], count: u8) -> Certificate {
     Certificate {
         issuer,
-        subject: subject(house, names, count),
         first: 0,
         last: 9,
-        statement: Statement::Name(name),
+        statement: Statement::Name {
+            name,
+            subject: subject(house, names, count),
+        },
     }
 }
 

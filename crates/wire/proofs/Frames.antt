@@ -1,5 +1,6 @@
 -- The reader of a certificate's fields is exact. Assumes nothing.
-use Rattle.std.proofs.Common.{◌≡◌, ℕ, ◌^◌, ◌<◌, Bool, true, false, cond, eqb, List, ◌∷◌, ◌++◌, length, Some, refl, ap, ◌∙◌, arith}
+use Rattle.std.proofs.Common.{◌≡◌, ℕ, ◌^◌, ◌<◌, Bool, true, false, cond, eqb, List, ◌∷◌, ◌++◌, length, Some, sym, refl, ap, ◌∙◌, arith}
+use Rattle.certificates.specs.Certificates.{subject_of}
 use Rattle.certificates.specs.declared.Certificate.{Certificate}
 use Rattle.certificates.specs.declared.Statement.{Statement}
 use Rattle.certificates.specs.declared.Statement.TheVariants.{Name, Rights}
@@ -8,86 +9,90 @@ use Rattle.std.proofs.lemmas.Bool.{eqb-true, eqb-false}
 use Rattle.std.specs.List.{flat_map, AllByRecursion}
 use Rattle.wire.proofs.Numerals.{number_part, byte_part, names_part}
 use Rattle.wire.proofs.Parts.{impossible, Part, both, turned, told_by, chosen, never}
-use Rattle.wire.specs.Exact.{fields_bytes, certificate_of, StatementFits, Fits}
+use Rattle.wire.specs.Exact.{fields_bytes, kept_subject, certificate_of, StatementFits, Fits}
 use Rattle.wire.specs.Format.{statement_bytes}
 use Rattle.wire.specs.Numbers.{bytes, take_number, and_then, places}
 use Rattle.wire.specs.Reading.{take_rights, take_stated, take_statement, take_subject, frame}
 use Rattle.wire.specs.declared.numbers.Six.{Six}
 
 abbrev tag_of : Statement → ℕ
-tag_of (Name name) = 0
-tag_of (Rights set delegable) = cond delegable 2 1
+tag_of (Name who name) = 0
+tag_of (Rights who set delegable) = cond delegable 2 1
 
 abbrev body_of : Statement → List ℕ
-body_of (Name name) = bytes 2 name
-body_of (Rights set delegable) = bytes 8 set
+body_of (Name who name) = bytes 2 name
+body_of (Rights who set delegable) = bytes 8 set
 
 tagged : (st : Statement) → tag_of st ∷ body_of st ≡ statement_bytes st
-tagged (Name name) = refl
-tagged (Rights set delegable) = refl
+tagged (Name who name) = refl
+tagged (Rights who set delegable) = refl
 
 small_tag : (st : Statement) → tag_of st < 256
-small_tag (Name name) = omega arith
-small_tag (Rights set true) = omega arith
-small_tag (Rights set false) = omega arith
+small_tag (Name who name) = omega arith
+small_tag (Rights who set true) = omega arith
+small_tag (Rights who set false) = omega arith
 
--- the tag is the statement's, and the statement fits its bytes
-abbrev Stated : ℕ → Statement → Type 0
-Stated tag st = (tag ≡ tag_of st) × StatementFits st
+-- the tag is the statement's, which fits its bytes and speaks of this subject
+abbrev Stated : Subject → ℕ → Statement → Type 0
+Stated who tag st = (tag ≡ tag_of st) × (StatementFits st × (subject_of st ≡ who))
 
-name_part : (tag : ℕ) → tag ≡ 0 → Part (λ s. and_then (take_number 2 s) λ name rest. Some (Name name, rest)) (λ st. st) body_of (Stated tag)
-name_part tag is = told_by (λ name fits. (Name name, (is, fits), refl, refl)) back (turned Name (number_part 2))
-  where
-    back : (st : Statement) → Stated tag st → (name : ℕ) × (name < 256 ^ 2) × (Name name ≡ st) × (bytes 2 name ≡ body_of st)
-    back (Name name) fits = (name, fits.1, refl, refl)
-    back (Rights set true) fits = impossible (omega arith)
-    back (Rights set false) fits = impossible (omega arith)
+module _ (who : Subject) where
+  name_part : (tag : ℕ) → tag ≡ 0 → Part (λ s. and_then (take_number 2 s) λ name rest. Some (Name who name, rest)) (λ st. st) body_of (Stated who tag)
+  name_part tag is = told_by (λ name fits. (Name who name, (is, (fits, refl)), refl, refl)) back (turned (λ name. Name who name) (number_part 2))
+    where
+      back : (st : Statement) → Stated who tag st → (name : ℕ) × (name < 256 ^ 2) × (Name who name ≡ st) × (bytes 2 name ≡ body_of st)
+      back (Name s name) fits = (name, fits.1.0, ap (λ w. Name w name) (sym fits.1.1), refl)
+      back (Rights s set true) fits = impossible (omega arith)
+      back (Rights s set false) fits = impossible (omega arith)
 
-rights_part : (tag : ℕ) (delegable : Bool) → tag ≡ cond delegable 2 1 →
-    Part (λ s. take_rights s delegable) (λ st. st) body_of (Stated tag)
-rights_part tag delegable is = told_by
-    (λ set fits. (Rights set delegable, (is, fits), refl, refl))
-    (back delegable is)
-    (turned (λ set. Rights set delegable) (number_part 8))
-  where
-    back : (delegable : Bool) → tag ≡ cond delegable 2 1 → (st : Statement) → Stated tag st →
-        (set : ℕ) × (set < 256 ^ 8) × (Rights set delegable ≡ st) × (bytes 8 set ≡ body_of st)
-    back true is (Name name) fits = impossible (omega arith)
-    back true is (Rights set true) fits = (set, fits.1, refl, refl)
-    back true is (Rights set false) fits = impossible (omega arith)
-    back false is (Name name) fits = impossible (omega arith)
-    back false is (Rights set true) fits = impossible (omega arith)
-    back false is (Rights set false) fits = (set, fits.1, refl, refl)
+  rights_part : (tag : ℕ) (delegable : Bool) → tag ≡ cond delegable 2 1 →
+      Part (λ s. take_rights who s delegable) (λ st. st) body_of (Stated who tag)
+  rights_part tag delegable is = told_by
+      (λ set fits. (Rights who set delegable, (is, (fits, refl)), refl, refl))
+      (back delegable is)
+      (turned (λ set. Rights who set delegable) (number_part 8))
+    where
+      back : (delegable : Bool) → tag ≡ cond delegable 2 1 → (st : Statement) → Stated who tag st →
+          (set : ℕ) × (set < 256 ^ 8) × (Rights who set delegable ≡ st) × (bytes 8 set ≡ body_of st)
+      back true is (Name s name) fits = impossible (omega arith)
+      back true is (Rights s set true) fits = (set, fits.1.0, ap (λ w. Rights w set true) (sym fits.1.1), refl)
+      back true is (Rights s set false) fits = impossible (omega arith)
+      back false is (Name s name) fits = impossible (omega arith)
+      back false is (Rights s set true) fits = impossible (omega arith)
+      back false is (Rights s set false) fits = (set, fits.1.0, ap (λ w. Rights w set false) (sym fits.1.1), refl)
 
-stated_part : (tag : ℕ) → Part (take_stated tag) (λ st. st) body_of (Stated tag)
-stated_part tag =
-    chosen (eqb tag 0) (λ is. name_part tag (eqb-true tag 0 is)) λ not0.
-    chosen (eqb tag 1) (λ is. rights_part tag false (eqb-true tag 1 is)) λ not1.
-    chosen (eqb tag 2) (λ is. rights_part tag true (eqb-true tag 2 is)) λ not2.
-    never (other not0 not1 not2)
-  where
-    other : eqb tag 0 ≡ false → eqb tag 1 ≡ false → eqb tag 2 ≡ false → (st : Statement) → Stated tag st → ⊥
-    other not0 not1 not2 (Name name) fits = eqb-false tag 0 not0 fits.0
-    other not0 not1 not2 (Rights set true) fits = eqb-false tag 2 not2 fits.0
-    other not0 not1 not2 (Rights set false) fits = eqb-false tag 1 not1 fits.0
+  stated_part : (tag : ℕ) → Part (take_stated who tag) (λ st. st) body_of (Stated who tag)
+  stated_part tag =
+      chosen (eqb tag 0) (λ is. name_part tag (eqb-true tag 0 is)) λ not0.
+      chosen (eqb tag 1) (λ is. rights_part tag false (eqb-true tag 1 is)) λ not1.
+      chosen (eqb tag 2) (λ is. rights_part tag true (eqb-true tag 2 is)) λ not2.
+      never (other not0 not1 not2)
+    where
+      other : eqb tag 0 ≡ false → eqb tag 1 ≡ false → eqb tag 2 ≡ false → (st : Statement) → Stated who tag st → ⊥
+      other not0 not1 not2 (Name s name) fits = eqb-false tag 0 not0 fits.0
+      other not0 not1 not2 (Rights s set true) fits = eqb-false tag 2 not2 fits.0
+      other not0 not1 not2 (Rights s set false) fits = eqb-false tag 1 not1 fits.0
 
-statement_part : Part take_statement (λ st. st) statement_bytes StatementFits
-statement_part = told_by forth back (both take_stated byte_part stated_part)
-  where
-    forth : (p : ℕ × Statement) → (p.0 < 256) × Stated p.0 p.1 →
-        (st : Statement) × StatementFits st × (p.1 ≡ st) × (p.0 ∷ body_of p.1 ≡ statement_bytes st)
-    forth p fits = (p.1, fits.1.1, refl, ap (λ b. b ∷ body_of p.1) fits.1.0 ∙ tagged p.1)
+  abbrev Said : Statement → Type 0
+  Said st = StatementFits st × (subject_of st ≡ who)
 
-    back : (st : Statement) → StatementFits st →
-        (p : ℕ × Statement) × ((p.0 < 256) × Stated p.0 p.1) × (p.1 ≡ st) × (p.0 ∷ body_of p.1 ≡ statement_bytes st)
-    back st fits = ((tag_of st, st), (small_tag st, (refl, fits)), refl, tagged st)
+  statement_part : Part (take_statement who) (λ st. st) statement_bytes Said
+  statement_part = told_by forth back (both (take_stated who) byte_part stated_part)
+    where
+      forth : (p : ℕ × Statement) → (p.0 < 256) × Stated who p.0 p.1 →
+          (st : Statement) × Said st × (p.1 ≡ st) × (p.0 ∷ body_of p.1 ≡ statement_bytes st)
+      forth p fits = (p.1, fits.1.1, refl, ap (λ b. b ∷ body_of p.1) fits.1.0 ∙ tagged p.1)
+
+      back : (st : Statement) → Said st →
+          (p : ℕ × Statement) × ((p.0 < 256) × Stated who p.0 p.1) × (p.1 ≡ st) × (p.0 ∷ body_of p.1 ≡ statement_bytes st)
+      back st fits = ((tag_of st, st), (small_tag st, (refl, fits)), refl, tagged st)
 
 -- a house and the names that follow it: their bytes, their subject, and when they fit
 abbrev named_bytes : ℕ × List ℕ → List ℕ
 named_bytes p = bytes 2 p.0 ++ (length p.1 ∷ flat_map (bytes 2) p.1)
 
 abbrev named_of : ℕ × List ℕ → Subject
-named_of p = record { house = p.0; names = places p.1; count = length p.1 }
+named_of p = kept_subject p.0 p.1
 
 abbrev NamedFit : ℕ × List ℕ → Type 0
 NamedFit p = (p.0 < 2 ^ 16) × ((length p.1 < 2 ^ 8) × AllByRecursion (λ n. n < 2 ^ 16) p.1)
@@ -111,16 +116,17 @@ frame_part = told_by
         house_fits = fits.1.1.1.0.0;
         count_fits = fits.1.1.1.0.1.0;
         names_fit = fits.1.1.1.0.1.1;
-        statement_fits = fits.1.1.1.1;
+        statement_fits = fits.1.1.1.1.0;
+        speaks_of = fits.1.1.1.1.1;
       },
       refl,
       refl,
     ))
     (λ f fits. (
       (f.issuer, (f.first, (f.last, ((f.house, f.names), f.statement)))),
-      (fits.issuer_fits, (fits.first_fits, (fits.last_fits, ((fits.house_fits, (fits.count_fits, fits.names_fit)), fits.statement_fits)))),
+      (fits.issuer_fits, (fits.first_fits, (fits.last_fits, ((fits.house_fits, (fits.count_fits, fits.names_fit)), (fits.statement_fits, fits.speaks_of))))),
       refl,
       refl,
     ))
     (both _ (number_part 2) λ issuer. both _ (number_part 4) λ first. both _ (number_part 4) λ last. both _ subject_part λ named.
-    turned {B = Certificate} (λ st. record { issuer = issuer; subject = named_of named; first = first; last = last; statement = st }) statement_part)
+    turned {B = Certificate} (λ st. record { issuer = issuer; first = first; last = last; statement = st }) (statement_part (named_of named)))

@@ -3,4 +3,4 @@ pub mod Faults
 pub mod Format
 pub mod Reading
 pub mod Exact
-pub mod Enough
+pub mod Settled

@@ -1,5 +1,5 @@
 -- What is read from bytes. Assumes nothing.
-use Rattle.std.specs.Prelude.{ℕ, Bool, true, false, cond, List, [], Some, None, Ok, Err, Result, ◌==◌}
+use Rattle.std.specs.Prelude.{ℕ, Bool, true, false, cond, List, Some, None, Ok, Err, Result, ◌==◌}
 use Rattle.certificates.specs.Certificates.{in_range}
 use Rattle.certificates.specs.declared.Certificate.{Certificate}
 use Rattle.certificates.specs.declared.Statement.{Statement}
@@ -9,22 +9,20 @@ use Rattle.wire.specs.Numbers.{Taken, take_number, take_numbers, keep_six, and_t
 use Rattle.wire.specs.declared.events.Event.{Event}
 use Rattle.wire.specs.declared.events.Event.TheVariants.{Issued, Revoked, DayPassed}
 use Rattle.wire.specs.declared.faults.Fault.{Fault}
-use Rattle.wire.specs.declared.faults.Fault.TheVariants.{Malformed, OutOfRange}
-use Rattle.wire.specs.declared.reading.Refusal.{Refusal}
-use Rattle.std.specs.Borrow.{Bor}
+use Rattle.wire.specs.declared.faults.Fault.TheVariants.{OutOfRange}
 
-abbrev pub take_rights : List ℕ → Bool → Taken Statement
-take_rights s delegable = and_then (take_number 8 s) λ set rest. Some (Rights set delegable, rest)
+abbrev pub take_rights : Subject → List ℕ → Bool → Taken Statement
+take_rights who s delegable = and_then (take_number 8 s) λ set rest. Some (Rights who set delegable, rest)
 
-abbrev pub take_stated : ℕ → List ℕ → Taken Statement
-take_stated tag s =
-    cond (tag == 0) (and_then (take_number 2 s) λ name rest. Some (Name name, rest))
-    (cond (tag == 1) (take_rights s false)
-    (cond (tag == 2) (take_rights s true) None))
+abbrev pub take_stated : Subject → ℕ → List ℕ → Taken Statement
+take_stated who tag s =
+    cond (tag == 0) (and_then (take_number 2 s) λ name rest. Some (Name who name, rest))
+    (cond (tag == 1) (take_rights who s false)
+    (cond (tag == 2) (take_rights who s true) None))
 
--- a tag, then a name or a set of rights
-abbrev pub take_statement : List ℕ → Taken Statement
-take_statement s = and_then (take_number 1 s) take_stated
+-- what is said of a subject: a tag, then a name or a set of rights
+abbrev pub take_statement : Subject → List ℕ → Taken Statement
+take_statement who s = and_then (take_number 1 s) (take_stated who)
 
 -- a house, how many names follow it, and these
 abbrev pub take_subject : List ℕ → Taken Subject
@@ -35,37 +33,26 @@ take_subject s = and_then (take_number 2 s) λ house s₁. and_then (take_number
 abbrev pub frame : List ℕ → Taken Certificate
 frame s =
     and_then (take_number 2 s) λ issuer s₁. and_then (take_number 4 s₁) λ first s₂. and_then (take_number 4 s₂) λ last s₃.
-    and_then (take_subject s₃) λ subject s₄. and_then (take_statement s₄) λ statement rest.
-    Some (record { issuer = issuer; subject = subject; first = first; last = last; statement = statement }, rest)
+    and_then (take_subject s₃) λ who s₄. and_then (take_statement who s₄) λ statement rest.
+    Some (record { issuer = issuer; first = first; last = last; statement = statement }, rest)
 
--- What reading gives: an event and what follows it, or a fault and what of the delivery is still read.
+-- What reading gives: an event, or the fault of one that has a value that it may not have, and what follows it;
+-- nothing where its length can't be known. Nothing more is read then.
 abbrev pub Reading : Type 0
-Reading = Result (Event × List ℕ) (Fault × List ℕ)
-
--- an event whose length can't be known: nothing more is read
-abbrev pub stopped : Reading
-stopped = Err (Malformed, [])
+Reading = Taken (Result Event Fault)
 
 abbrev pub looked : Taken Certificate → Reading
-looked None = stopped
-looked (Some p) = cond (in_range p.0) (Ok (Issued p.0, p.1)) (Err (OutOfRange, p.1))
+looked framed = and_then framed λ c rest. Some (cond (in_range c) (Ok (Issued c)) (Err OutOfRange), rest)
 
 abbrev pub revoking : Taken ℕ → Reading
-revoking None = stopped
-revoking (Some p) = Ok (Revoked p.0, p.1)
+revoking taken = and_then taken λ number rest. Some (Ok (Revoked number), rest)
 
-abbrev pub read_kind : Taken ℕ → Reading
-read_kind None = stopped
-read_kind (Some p) =
-    cond (p.0 == 1) (looked (frame p.1))
-    (cond (p.0 == 2) (revoking (take_number 2 p.1))
-    (cond (p.0 == 3) (Ok (DayPassed, p.1)) stopped))
+abbrev pub read_kind : ℕ → List ℕ → Reading
+read_kind kind s =
+    cond (kind == 1) (looked (frame s))
+    (cond (kind == 2) (revoking (take_number 2 s))
+    (cond (kind == 3) (Some (Ok DayPassed, s)) None))
 
 -- an event: its kind, then what that kind asks for
 abbrev pub event_read : List ℕ → Reading
-event_read s = read_kind (take_number 1 s)
-
--- a reader's answer, with its part of the slice as a list
-abbrev pub reading_of : Result (Event × Bor (List ℕ)) Refusal → Reading
-reading_of (Ok p) = Ok (p.0, p.1.now)
-reading_of (Err e) = Err (e.fault, e.rest.now)
+event_read s = and_then (take_number 1 s) read_kind

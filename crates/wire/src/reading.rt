@@ -2,7 +2,7 @@
 // A reader's answer is taken apart by `let .. else`, so that what a missing part leads to stands beside it.
 ghost use Rattle.wire.specs.Exact.{Exactly};
 ghost use Rattle.wire.specs.Numbers.{split};
-ghost use Rattle.wire.specs.Reading.{take_subject, take_statement, take_rights, frame, looked, event_read, reading_of};
+ghost use Rattle.wire.specs.Reading.{take_subject, take_statement, take_rights, frame, looked, event_read};
 ghost use Rattle.std.specs.Prelude.{◌≡◌};
 
 use crate::events::Event;
@@ -10,17 +10,12 @@ use crate::faults::Fault;
 use crate::numbers::{read, read_u16s};
 use certificates::{Certificate, Statement, Subject};
 
-// An event that is refused: why, and what is still read of the delivery.
-// That is what stands behind the event, or nothing where its length can't be known.
-#[derive(Clone, Copy)]
-pub struct Refusal<'a> {
-    pub fault: Fault,
-    pub rest: &'a [u8],
-}
+// The most bytes that an event can have: a certificate with 255 names. So many settle what stands first, even where nothing can be read.
+pub const LONGEST_EVENT: usize = 533;
 
-// What a certificate says: a tag, then a name or a set of rights. Tags are matched as numbers, a rule of the project; `writing` has the same ones.
-fn read_statement(bytes: &[u8]) -> Option<(Statement, &[u8])>
-    ensures { split result ≡ take_statement bytes.now }
+// What a certificate says of its subject: a tag, then a name or a set of rights. Tags are matched as numbers, a rule of the project; `writing` has the same ones.
+fn read_statement(subject: Subject, bytes: &[u8]) -> Option<(Statement, &[u8])>
+    ensures { split result ≡ take_statement subject bytes.now }
 {
     let Some((tag, rest)) = read::<u8, 1>(bytes) else {
         return None;
@@ -30,22 +25,29 @@ fn read_statement(bytes: &[u8]) -> Option<(Statement, &[u8])>
             let Some((name, rest)) = read::<u16, 2>(rest) else {
                 return None;
             };
-            Some((Statement::Name(name), rest))
+            Some((Statement::Name { subject, name }, rest))
         }
-        1 => read_rights(rest, false),
-        2 => read_rights(rest, true),
+        1 => read_rights(subject, rest, false),
+        2 => read_rights(subject, rest, true),
         _ => None,
     }
 }
 
 // A set of rights, which may be passed on or not.
-fn read_rights(bytes: &[u8], delegable: bool) -> Option<(Statement, &[u8])>
-    ensures { split result ≡ take_rights bytes.now delegable }
+fn read_rights(subject: Subject, bytes: &[u8], delegable: bool) -> Option<(Statement, &[u8])>
+    ensures { split result ≡ take_rights subject bytes.now delegable }
 {
     let Some((rights, rest)) = read::<u64, 8>(bytes) else {
         return None;
     };
-    Some((Statement::Rights { rights, delegable }, rest))
+    Some((
+        Statement::Rights {
+            subject,
+            rights,
+            delegable,
+        },
+        rest,
+    ))
 }
 
 // Whom a certificate speaks of: a house, how many names follow it, and these.
@@ -88,12 +90,11 @@ fn frame_certificate(bytes: &[u8]) -> Option<(Certificate, &[u8])>
     let Some((subject, rest)) = read_subject(rest) else {
         return None;
     };
-    let Some((statement, rest)) = read_statement(rest) else {
+    let Some((statement, rest)) = read_statement(subject, rest) else {
         return None;
     };
     let certificate = Certificate {
         issuer,
-        subject,
         first,
         last,
         statement,
@@ -102,47 +103,38 @@ fn frame_certificate(bytes: &[u8]) -> Option<(Certificate, &[u8])>
 }
 
 // A certificate, its values looked at.
-fn read_certificate(bytes: &[u8]) -> Result<(Event, &[u8]), Refusal<'_>>
-    ensures { reading_of result ≡ looked (frame bytes.now) }
+fn read_certificate(bytes: &[u8]) -> Option<(Result<Event, Fault>, &[u8])>
+    ensures { split result ≡ looked (frame bytes.now) }
 {
     let Some((certificate, rest)) = frame_certificate(bytes) else {
-        return Err(Refusal {
-            fault: Fault::Malformed,
-            rest: &[],
-        });
+        return None;
     };
     if certificate.in_range() {
-        Ok((Event::Issued(certificate), rest))
+        Some((Ok(Event::Issued(certificate)), rest))
     } else {
-        Err(Refusal {
-            fault: Fault::OutOfRange,
-            rest,
-        })
+        Some((Err(Fault::OutOfRange), rest))
     }
 }
 
-// The next event and what follows it, or why it is refused. Kinds are matched as numbers, as tags are.
+// The next event, or the fault of one with a value that it may not have, and what follows it.
+// None where its length can't be known, which is fault 1: nothing more is read then. Kinds are matched as numbers, as tags are.
 #[tactic(auto, using(crate::proofs::Exact::exactly_read))]
-pub fn read_event(bytes: &[u8]) -> Result<(Event, &[u8]), Refusal<'_>>
-    ensures value { reading_of result ≡ event_read bytes.now }
-    ensures exact { Exactly bytes.now (reading_of result) }
+pub fn read_event(bytes: &[u8]) -> Option<(Result<Event, Fault>, &[u8])>
+    ensures value { split result ≡ event_read bytes.now }
+    ensures exact { Exactly bytes.now (split result) }
 {
-    let stopped = Refusal {
-        fault: Fault::Malformed,
-        rest: &[],
-    };
     let Some((kind, rest)) = read::<u8, 1>(bytes) else {
-        return Err(stopped);
+        return None;
     };
     match kind {
         1 => read_certificate(rest),
         2 => {
             let Some((number, rest)) = read::<u16, 2>(rest) else {
-                return Err(stopped);
+                return None;
             };
-            Ok((Event::Revoked(number), rest))
+            Some((Ok(Event::Revoked(number)), rest))
         }
-        3 => Ok((Event::DayPassed, rest)),
-        _ => Err(stopped),
+        3 => Some((Ok(Event::DayPassed), rest)),
+        _ => None,
     }
 }

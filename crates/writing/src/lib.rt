@@ -42,17 +42,21 @@ fn push_subject(out: &mut Vec<u8>, subject: &Subject) -> Result<(), AllocError>
 }
 
 // Writes a statement: its tag, then a name or a set of rights.
-fn push_statement(out: &mut Vec<u8>, statement: Statement) -> Result<(), AllocError>
-    ensures { OnOk result (out.new.items ≡ out.old.items ++ statement_bytes statement) }
+fn push_statement(out: &mut Vec<u8>, statement: &Statement) -> Result<(), AllocError>
+    ensures { OnOk result (out.new.items ≡ out.old.items ++ statement_bytes statement.now) }
 {
     match statement {
-        Statement::Name(name) => {
+        Statement::Name { name, .. } => {
             out.push(0)?;
-            push_number(out, name)?;
+            push_number(out, *name)?;
         }
-        Statement::Rights { rights, delegable } => {
-            out.push(if delegable { 2 } else { 1 })?;
-            push_number(out, rights)?;
+        Statement::Rights {
+            rights,
+            delegable,
+            ..
+        } => {
+            out.push(if *delegable { 2 } else { 1 })?;
+            push_number(out, *rights)?;
         }
     }
     Ok(())
@@ -65,8 +69,8 @@ fn push_certificate(out: &mut Vec<u8>, certificate: &Certificate) -> Result<(), 
     push_number(out, certificate.issuer)?;
     push_number(out, certificate.first)?;
     push_number(out, certificate.last)?;
-    push_subject(out, &certificate.subject)?;
-    push_statement(out, certificate.statement)?;
+    push_subject(out, certificate.statement.subject())?;
+    push_statement(out, &certificate.statement)?;
     Ok(())
 }
 
