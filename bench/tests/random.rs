@@ -63,7 +63,7 @@ fn stands_across(delivery: &[u8], place: usize) -> bool {
     false
 }
 
-/// The proved programs hold 32 KiB when they take the first events, the unproved ones 64 KiB.
+/// The proved programs take events by 16 KiB, the unproved ones by 64 KiB.
 #[test]
 fn cases_have_events_across_pieces() {
     let mut met = [0; 2];

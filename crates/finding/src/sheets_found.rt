@@ -6,6 +6,8 @@ ghost use Rattle.finding.specs.Worth.{Worth, OpensAsked, fault_of};
 ghost use Rattle.registry.specs.Numbered.{certificates_of};
 
 use crate::searching::find_kept;
+// How many bytes of a request stand before its lines, for callers that lend one.
+pub use promise::heads::HEAD;
 use registry::Registry;
 use sheets::checking::Question;
 use std::alloc::Global;

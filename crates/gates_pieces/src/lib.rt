@@ -11,7 +11,8 @@ ghost use Rattle.wire.specs.Settled.{longest_event};
 use gates::Gate;
 use promise::answers::Answer;
 use wire::faults::Fault;
-use wire::reading::LONGEST_EVENT;
+// How many bytes settle what stands first in a piece, for callers that hold what is left.
+pub use wire::reading::LONGEST_EVENT;
 
 pub mod laws;
 

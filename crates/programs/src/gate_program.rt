@@ -8,17 +8,14 @@ use gates::troubles::Trouble;
 use sheets::checking::MEMORY_WORDS;
 use std::process::ExitCode;
 
-// Answers a request; `more` says whether the file may go on behind what is held. No more of it is read than shows that it is longer than any can be at this gate.
+// Answers a request. No more of it is read than shows that it is longer than any can be at this gate.
 fn answer_request(
     rt: &HostRuntime,
     gate: &Gate,
     memory: &mut [u64],
     mut delivery: Delivery<'_>,
-    more: bool,
 ) -> anyhow::Result<()> {
-    if more {
-        let _ = delivery.read_past(gate.longest_request())?;
-    }
+    let _ = delivery.read_past(gate.longest_request())?;
     let answer = gate
         .answer(delivery.bytes.as_slice(), memory)
         .map_err(Trouble::from)?;
@@ -34,12 +31,12 @@ fn receive_file(
     name: &str,
 ) -> anyhow::Result<Gate> {
     let mut delivery = Delivery::open(rt, name)?;
-    let more = delivery.read_piece()?;
+    let _ = delivery.read_on()?;
     if delivery.is_request() {
-        answer_request(rt, &gate, memory, delivery, more)?;
+        answer_request(rt, &gate, memory, delivery)?;
         return Ok(gate);
     }
-    take_events(rt, gate, &ByNumber, delivery, more)
+    take_events(rt, gate, &ByNumber, delivery)
 }
 
 // Every file is opened before the first is taken, so that a name that is wrong prints no answers.

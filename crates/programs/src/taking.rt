@@ -3,7 +3,7 @@ ghost use Rattle.gates.specs.Gates.{state_of};
 ghost use Rattle.programs.specs.Taking.{HeldTaken, FewLeft};
 ghost use Rattle.std.specs.Prelude.{◌≡◌, ◌<◌, IfOk, OnOk, length, vec_capacity};
 
-use crate::files::{Delivery, open_file};
+use crate::files::{Delivery, PIECE, open_file};
 use crate::telling::{ByPlace, Part, Telling};
 use gates::Gate;
 use gates_pieces::take_piece;
@@ -62,16 +62,16 @@ fn take_held<T: Telling>(
     }
 }
 
-// Takes the events of a file piece by piece, of which the first is held; `more` says whether the file may go on behind it.
+// Takes the events of a file piece by piece; what was read of it is held.
 // What is left of a piece is looked at again only when a full one came behind it, or the end: no more is held than two pieces and what an event needs.
 pub(crate) fn take_events<T: Telling>(
     rt: &HostRuntime,
     mut gate: Gate,
     telling: &T,
     mut delivery: Delivery<'_>,
-    mut more: bool,
 ) -> anyhow::Result<Gate> {
     let mut answers = Vec::with_capacity(rt.alloc(), telling.answers_held())?;
+    let mut more = delivery.read_past(PIECE - 1)?;
     // Counted, since a file may give bytes without end.
     for _ in 0..u64::MAX {
         let (next, left) = take_held(rt, gate, telling, &delivery, !more, &mut answers)?;
@@ -88,12 +88,12 @@ pub(crate) fn take_events<T: Telling>(
     Ok(gate)
 }
 
-// Takes the events of a file; a request in it changes nothing. The program `gate` answers requests besides, and tells by number (`receive_file`).
+// Takes the events of a file; a request in it changes nothing, and no more of it is read than shows that it is one. The program `gate` answers requests besides, and tells by number (`receive_file`).
 pub(crate) fn take_file(rt: &HostRuntime, gate: Gate, name: &str) -> anyhow::Result<Gate> {
     let mut delivery = Delivery::open(rt, name)?;
-    let more = delivery.read_piece()?;
+    let _ = delivery.read_on()?;
     if delivery.is_request() {
         return Ok(gate);
     }
-    take_events(rt, gate, &ByPlace, delivery, more)
+    take_events(rt, gate, &ByPlace, delivery)
 }

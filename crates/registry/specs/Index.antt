@@ -29,9 +29,13 @@ pub record Place (es : List Entry) (house name place : ℕ) : Type 0 where
 abbrev pub HouseStart : List Entry → ℕ → ℕ → Type 0
 HouseStart es house place = (place ≤ length es) × IsPartitionPoint (λ e. e.house < house) (λ e. house ≤ e.house) es place
 
--- for each house, and behind the last, the place where its entries start
+-- for each house of which a start is kept, the place where its entries start
 abbrev pub Starts : List ℕ → List Entry → Type 0
-Starts starts es = (house : ℕ) → house ≤ 1024 → HouseStart es house (slice_index starts house)
+Starts starts es = (house : ℕ) → house < length starts → HouseStart es house (slice_index starts house)
+
+-- of each house that has entries a start is kept, and of the next house
+abbrev pub Started : List ℕ → List Entry → Type 0
+Started starts es = AllWithin (λ e. e.house + 1 < length starts) es 0 (length es)
 
 -- the place where a house's entries start, when another house gets one more
 abbrev pub start_behind : ℕ → ℕ → ℕ → ℕ

@@ -3,6 +3,8 @@ ghost use Rattle.std.specs.Prelude.{◌≡◌};
 ghost use Rattle.registry.specs.Numbered.{certificates_of};
 ghost use Rattle.sheets.specs.Reading.{past_of, line_skipped, lines_skipped};
 
+// A line as it is checked, beside what walks over lines.
+pub use crate::line::Line;
 use registry::Registry;
 use wire::numbers::{read, read_u16s};
 

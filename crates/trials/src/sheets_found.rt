@@ -3,6 +3,7 @@ use crate::building::{
     NUMBERS, asked, by, by_two, check, gives, gives_only, may, may_on, names, plain, registry_of,
 };
 use certificates::Certificate;
+use finding::growing;
 use finding::sheets_found::{Unfound, find};
 use registry::Registry;
 use sheets::checking;
@@ -79,9 +80,22 @@ impl Finder {
         Ok(checking::check(&self.registry, question, count, lines, memory)??)
     }
 
+    // Whether the house may is told without a sheet too.
+    fn tells(&mut self, question: &Question, meant: bool) -> Result<(), Fail> {
+        let told = growing::may(
+            self.heap,
+            &self.registry,
+            question,
+            self.names.as_mut_slice(),
+            self.name_lines.as_mut_slice(),
+        );
+        check(told == Ok(meant), "told otherwise")
+    }
+
     // The number of lines and the lines that are written, which hold.
     pub(crate) fn finds(&mut self, question: Question, meant: &[u8]) -> Result<(), Fail> {
         self.written(&question, meant)?;
+        self.tells(&question, true)?;
         self.holds(&question, meant)
     }
 
@@ -94,7 +108,8 @@ impl Finder {
             "a sheet, or another refusal",
         )?;
         let before = request_of(self.heap, b"")?;
-        check(request.as_slice() == before.as_slice(), "request written")
+        check(request.as_slice() == before.as_slice(), "request written")?;
+        self.tells(&question, false)
     }
 }
 
