@@ -42,7 +42,6 @@ impl Gate {
     }
 
     // The certificate of this number is taken back.
-    #[tactic(auto, using(registry::proofs::Kept::revoke_past))]
     fn revoke(mut self, number: u16) -> (Gate, Option<Fault>)
         ensures { (state_of result.0, result.1) ≡ revoke (state_of self) number }
     {

@@ -88,7 +88,7 @@ pub(crate) fn take_events<T: Telling>(
     Ok(gate)
 }
 
-// Takes the events of a file; a request in it changes nothing, and no more of it is read than shows that it is one. The program `gate` answers requests besides, and tells by number (`receive_file`).
+// Takes the events of a file; a request in it changes nothing, and is not read on. The program `gate` answers requests besides, and tells by number (`receive_file`).
 pub(crate) fn take_file(rt: &HostRuntime, gate: Gate, name: &str) -> anyhow::Result<Gate> {
     let mut delivery = Delivery::open(rt, name)?;
     let _ = delivery.read_on()?;

@@ -1,15 +1,15 @@
 -- Where the entries of each house start, and what is found among them. Assumes nothing.
-use Rattle.std.proofs.Common.{◌≡◌, ℕ, ◌+◌, ◌-◌, ◌<◌, ◌≤◌, Bool, true, false, cond, ltb, List, [], length, get_or, slice_index, take, drop, Ok, Err, sym, refl, ◌∙◌, inl, inr, arith}
+use Rattle.std.proofs.Common.{◌≡◌, ℕ, ◌+◌, ◌-◌, ◌<◌, ◌≤◌, Bool, true, false, cond, ltb, List, [], length, get_or, slice_index, ap, take, drop, replicate, ◌/◌, ◌*◌, Ok, Err, sym, refl, ◌∙◌, inl, inr, arith}
 use Rattle.certificates.specs.declared.Certificate.{Certificate}
 use Rattle.registry.proofs.Indexed.{searched}
 use Rattle.registry.proofs.Order.{at_inserted}
-use Rattle.registry.specs.Index.{compared, Place, HouseStart, Starts, Started, start_behind, OfHouses, Indexes, HasRow, Missing}
+use Rattle.registry.specs.Index.{compared, Place, HouseStart, Starts, start_behind, one_more, OfHouses, Indexes, HasRow, Missing}
 use Rattle.registry.specs.declared.Entry.{Entry}
 use Rattle.std.proofs.lemmas.Bool.{cases_eq, cases_lt, ltb-true, ltb-false}
 use Rattle.std.proofs.lemmas.Bool.Decides.{nat_tests}
-use Rattle.std.proofs.lemmas.List.{get_or-take, get_or-drop, length-take, length-drop}
+use Rattle.std.proofs.lemmas.List.{get_or-take, get_or-drop, get_or-replicate, length-take, length-drop}
 use Rattle.std.proofs.lemmas.List.Edits.{length-insert}
-use Rattle.std.specs.List.{insert, AllWithin, HoldsAt}
+use Rattle.std.specs.List.{insert, HoldsAt}
 use Rattle.std.specs.List.Sorted.{IsNonDecreasingBy, IsPartitionPoint}
 use Rattle.std.specs.Ordering.{nat_cmp, ordering_index}
 use Rattle.std.specs.declared.cmp.Ordering.{Ordering}
@@ -41,21 +41,36 @@ name_below e f same stands = grind (arith, nat_tests)
 index_rises : (m n name : ℕ) → m < n → ordering_index (nat_cmp m name) ≤ ordering_index (nat_cmp n name)
 index_rises m n name less = grind (arith, nat_tests)
 
--- a house of which no start is kept, or not of the next, starts behind all entries
-pub behind_all : (starts : List ℕ) (es : List Entry) → Started starts es → (house : ℕ) → length starts ≤ house + 1 → HouseStart es house (length es)
-behind_all starts es all house past = (
+-- a house that there is not starts behind all entries
+pub behind_all : (es : List Entry) → OfHouses es → (house : ℕ) → 1024 ≤ house → HouseStart es house (length es)
+behind_all es all house past = (
   omega arith,
-  ((λ k d low less. let kept = all k d low (omega arith) in omega (arith, kept)), (λ k d low less. let never : ⊥ = omega arith in absurd never)),
+  ((λ k d low less. let small = all k d low (omega arith) in omega (arith, small)), (λ k d low less. let never : ⊥ = omega arith in absurd never)),
 )
 
--- starts are kept of more houses, behind all entries
-pub starts_more : (starts more : List ℕ) (es : List Entry) → Starts starts es → Started starts es → ((h : ℕ) → h < length starts → slice_index more h ≡ slice_index starts h) →
-    ((h : ℕ) → length starts ≤ h → h < length more → slice_index more h ≡ length es) →
-    Starts more es
-starts_more starts more es from all kept others house within = elim (cases_lt house (length starts)) [
-  | inl low ↦ rw (kept house low) (from house low)
-  | inr past ↦ rw (others house past within) (behind_all starts es all house (omega (arith, past)))
-]
+-- without entries each house starts at 0
+pub no_starts : (blocks starts : List ℕ) (es : List Entry) → blocks ≡ replicate 33 0 → starts ≡ replicate 1025 0 → es ≡ [] → Starts blocks starts es
+no_starts blocks starts es none zeros empty house small =
+    rw (none, zeros, empty, get_or-replicate {A = ℕ} 33 (house / 32) 0 0 (omega arith), get_or-replicate {A = ℕ} 1025 house 0 0 (omega arith))
+    (omega arith, ((λ k d low less. let never : ⊥ = omega arith in absurd never), (λ k d low less. let never : ⊥ = omega arith in absurd never)))
+
+-- when a house gets an entry, those of its block behind it start one place later, and all higher blocks
+start_moves_by : (other house own block at start : ℕ) → 32 * own ≤ other → other < 32 * own + 32 → 32 * block ≤ house → house < 32 * block + 32 → block < 33 →
+    start_behind other house (at + start) ≡ one_more (own + 1) 33 block at + one_more (other + 1) ((own + 1) * 32) house start
+start_moves_by other house own block at start low high low' high' within = grind (arith, nat_tests)
+
+pub start_moves : (other house at start : ℕ) → house ≤ 1024 → start_behind other house (at + start) ≡ one_more (other / 32 + 1) 33 (house / 32) at + one_more (other + 1) ((other / 32 + 1) * 32) house start
+start_moves other house at start small = start_moves_by other house (other / 32) (house / 32) at start (omega arith) (omega arith) (omega arith) (omega arith) (omega arith)
+
+block_of : (block : ℕ) → 32 * block / 32 ≡ block
+block_of block = omega arith
+
+-- no block starts behind all entries
+pub block_within : (blocks starts : List ℕ) (es : List Entry) → Starts blocks starts es → (block : ℕ) → block < 33 → slice_index blocks block ≤ length es
+block_within blocks starts es started block within =
+    let first = started (32 * block) (omega arith) in
+    let here = ap (λ b. slice_index blocks b) (block_of block) in
+    omega (arith, first.0, here)
 
 -- a house's entries end where those of the next start
 pub starts_in_order : (es : List Entry) (house start end : ℕ) → HouseStart es house start → HouseStart es (house + 1) end → start ≤ end
@@ -74,11 +89,6 @@ module _ (es : List Entry) (place : ℕ) (x : Entry) (at : Place es x.house x.na
   pub of_houses : x.house < 1024 → OfHouses es → OfHouses (insert es place x)
   of_houses small all j d low less =
       at_inserted es place x at.within (λ e. e.house < 1024) j d (λ front. all j d (omega arith) (omega (arith, at.within))) (λ same. small) (λ back. all (j - 1) d (omega arith) (omega (arith, long)))
-
-  pub started_more : (n m : ℕ) → AllWithin (λ e. e.house + 1 < n) es 0 (length es) → n ≤ m → x.house + 1 < m → AllWithin (λ e. e.house + 1 < m) (insert es place x) 0 (length (insert es place x))
-  started_more n m all longer new j d low less =
-      at_inserted es place x at.within (λ e. e.house + 1 < m) j d (λ front. let kept = all j d (omega arith) (omega (arith, at.within)) in omega (arith, kept, longer)) (λ same. new)
-      (λ back. let kept = all (j - 1) d (omega arith) (omega (arith, long)) in omega (arith, kept, longer))
 
   module _ (house start : ℕ) (was : HouseStart es house start) where
     -- the new entry of a house below stands before its start

@@ -1,5 +1,5 @@
 -- The index: entries in order, and the row that they have for a house's name. Assumes nothing.
-use Rattle.std.specs.Prelude.{◌≡◌, ℕ, ◌+◌, ◌<◌, ◌≤◌, Bool, cond, ◌&&◌, List, [], ◌∷◌, length, ◌==◌, nat_lt, slice_index, slice_index_or}
+use Rattle.std.specs.Prelude.{◌≡◌, ℕ, ◌+◌, ◌<◌, ◌≤◌, Bool, cond, ◌&&◌, not, ◌/◌, List, [], ◌∷◌, length, ◌==◌, nat_lt, slice_index, slice_index_or}
 use Rattle.certificates.specs.declared.Certificate.{Certificate}
 use Rattle.registry.specs.Rows.{row_of}
 use Rattle.registry.specs.declared.Entry.{Entry}
@@ -29,17 +29,21 @@ pub record Place (es : List Entry) (house name place : ℕ) : Type 0 where
 abbrev pub HouseStart : List Entry → ℕ → ℕ → Type 0
 HouseStart es house place = (place ≤ length es) × IsPartitionPoint (λ e. e.house < house) (λ e. house ≤ e.house) es place
 
--- for each house of which a start is kept, the place where its entries start
-abbrev pub Starts : List ℕ → List Entry → Type 0
-Starts starts es = (house : ℕ) → house < length starts → HouseStart es house (slice_index starts house)
+-- where a house's entries start: what its block of 32 houses starts at, and how many entries of the block are of lower houses
+abbrev pub start_of : List ℕ → List ℕ → ℕ → ℕ
+start_of blocks starts house = slice_index blocks (house / 32) + slice_index starts house
 
--- of each house that has entries a start is kept, and of the next house
-abbrev pub Started : List ℕ → List Entry → Type 0
-Started starts es = AllWithin (λ e. e.house + 1 < length starts) es 0 (length es)
+-- for each house, and behind the last, the place where its entries start
+abbrev pub Starts : List ℕ → List ℕ → List Entry → Type 0
+Starts blocks starts es = (house : ℕ) → house ≤ 1024 → HouseStart es house (start_of blocks starts house)
 
 -- the place where a house's entries start, when another house gets one more
 abbrev pub start_behind : ℕ → ℕ → ℕ → ℕ
 start_behind other house start = cond (nat_lt other house) (start + 1) start
+
+-- the numbers from one place to before another are one more
+abbrev pub one_more : ℕ → ℕ → ℕ → ℕ → ℕ
+one_more from to place number = cond (not (nat_lt place from) && nat_lt place to) (number + 1) number
 
 -- every entry is of a house that there is
 abbrev pub OfHouses : List Entry → Type 0

@@ -1,38 +1,28 @@
 // The names that certificates state, in order, and where those of each house start.
-ghost use Rattle.std.specs.Prelude.{◌≡◌, ℕ, ◌+◌, ◌<◌, ◌≤◌, [], length, vec_len, vec_capacity, slice_index, IfOk, max};
-ghost use Rattle.registry.specs.Index.{Place, HouseStart, start_behind};
+ghost use Rattle.std.specs.Prelude.{◌≡◌, ℕ, ◌+◌, ◌<◌, ◌≤◌, [], length, vec_len, vec_capacity, slice_index, IfOk};
+ghost use Rattle.registry.specs.Index.{Place, HouseStart, one_more};
 ghost use Rattle.std.specs.List.{insert};
 
 use crate::{Entry, Index, MOST_CERTIFICATES};
 use certificates::HOUSES;
 use std::alloc::{AllocError, Global};
 
-// Starts are kept up to the house behind this one. Those that weren't kept stand behind all entries.
-fn start_up_to(starts: &mut Vec<u16>, house: u16, entries: u16)
-    requires house { house < 1024 }
-    requires room { 1025 ≤ vec_capacity starts.old }
-    ensures len { vec_len starts.new ≡ max (vec_len starts.old) (house + 2) }
-    ensures kept { (h : ℕ) → h < vec_len starts.old → slice_index starts.new.items h ≡ slice_index starts.old.items h }
-    ensures others { (h : ℕ) → vec_len starts.old ≤ h → h < vec_len starts.new → slice_index starts.new.items h ≡ entries }
-    ensures capacity { vec_capacity starts.old ≤ vec_capacity starts.new }
-{
-    let needed = usize::from(house) + 2;
-    if starts.len() < needed {
-        // room for those of all houses is reserved
-        let _ = starts.resize(needed, entries);
-    }
-}
+// How many houses are a block.
+const BLOCK: usize = 32;
 
-// When a house gets an entry, those of higher houses start one place later.
-fn start_behind(starts: &mut Vec<u16>, house: u16)
-    requires { (h : ℕ) → slice_index starts.old.items h ≤ 1024 }
-    ensures len { vec_len starts.new ≡ vec_len starts.old }
-    ensures starts { (h : ℕ) → h < vec_len starts.old → slice_index starts.new.items h ≡ start_behind house h (slice_index starts.old.items h) }
-    ensures capacity { vec_capacity starts.new ≡ vec_capacity starts.old }
+// How many blocks there are, with the one of the house behind the last.
+const BLOCKS: usize = HOUSES / BLOCK + 1;
+
+// The numbers from one place to before another are one more.
+fn add_one(numbers: &mut Vec<u16>, from: usize, to: usize)
+    requires within { to ≤ vec_len numbers.old }
+    requires small { (i : ℕ) → i < to → slice_index numbers.old.items i ≤ 1024 }
+    ensures len { vec_len numbers.new ≡ vec_len numbers.old }
+    ensures items { (i : ℕ) → slice_index numbers.new.items i ≡ one_more from to i (slice_index numbers.old.items i) }
 {
     // By place: behind `skip` a proof knows nothing of what is in the list.
-    for other in usize::from(house) + 1..starts.len() {
-        starts[other] += 1;
+    for place in from..to {
+        numbers[place] += 1;
     }
 }
 
@@ -51,25 +41,37 @@ fn insert_at(entries: &mut Vec<Entry>, place: usize, entry: Entry)
 
 impl Index {
     // No entries yet, and room for as many as certificates.
+    #[tactic(auto, using(crate::proofs::Starts::no_starts))]
     pub(crate) fn new(heap: Global) -> Result<Index, AllocError>
         ensures { IfOk result (λ index. index.entries.items ≡ []) }
     {
         let entries = Vec::with_capacity(heap, MOST_CERTIFICATES)?;
-        let starts = Vec::with_capacity(heap, HOUSES + 1)?;
-        Ok(Index { entries, starts })
+        let blocks = vec![in heap; 0u16; BLOCKS]?;
+        let starts = vec![in heap; 0u16; HOUSES + 1]?;
+        Ok(Index {
+            entries,
+            blocks,
+            starts,
+        })
     }
 
-    // Where the entries of a house start, and where those of the next do; behind all entries for a house of which no start is kept.
+    // Where the entries of a house start; behind all entries for a house that there is not.
     #[tactic(auto, using(crate::proofs::Starts::behind_all))]
+    fn start_of(&self, house: usize) -> usize
+        ensures { HouseStart self.now.entries.items house result }
+    {
+        match (self.blocks.get(house / BLOCK), self.starts.get(house)) {
+            (Some(block), Some(start)) => usize::from(*block) + usize::from(*start),
+            _ => self.entries.len(),
+        }
+    }
+
+    // Where the entries of a house start, and where those of the next do.
     pub(crate) fn entries_of(&self, house: u16) -> (usize, usize)
         ensures { HouseStart self.now.entries.items house result.0 × HouseStart self.now.entries.items (house + 1) result.1 }
     {
         let house = usize::from(house);
-        // both at once, so that the place is tested once
-        match self.starts.get(house..house + 2) {
-            Some([start, end]) => (usize::from(*start), usize::from(*end)),
-            _ => (self.entries.len(), self.entries.len()),
-        }
+        (self.start_of(house), self.start_of(house + 1))
     }
 
     // An entry comes, at its place.
@@ -79,8 +81,11 @@ impl Index {
         requires few { vec_len self.old.entries < 1024 }
         ensures { self.new.entries.items ≡ insert self.old.entries.items place entry }
     {
-        start_up_to(&mut self.starts, entry.house, self.entries.len() as u16);
-        start_behind(&mut self.starts, entry.house);
+        // those of higher houses start one place later: in its own block, and all higher blocks
+        let house = usize::from(entry.house);
+        let next = house / BLOCK + 1;
+        add_one(&mut self.starts, house + 1, next * BLOCK);
+        add_one(&mut self.blocks, next, BLOCKS);
         // room for as many names as certificates is reserved
         insert_at(&mut self.entries, place, entry);
     }

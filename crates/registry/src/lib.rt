@@ -2,7 +2,7 @@
 #![tactic(auto)]
 
 ghost use Rattle.std.specs.Prelude.{◌≡◌, ◌≤◌, true, vec_len, vec_capacity};
-ghost use Rattle.registry.specs.Index.{OfHouses, Starts, Started, Indexes};
+ghost use Rattle.registry.specs.Index.{OfHouses, Starts, Indexes};
 ghost use Rattle.registry.specs.Keeping.{all_in_range};
 
 use certificates::Certificate;
@@ -29,16 +29,17 @@ pub(crate) struct Index {
     // Rising by house and name, no two alike. A sorted list and no map: a certificate that comes is entered without
     // allocating, in room that was reserved at the start.
     entries: Vec<Entry>,
-    // By house, up to the one behind the highest that has an entry: how many entries are of lower houses.
-    // A list and no array, since a gate, which holds it, goes by value; and no longer than that, since each new name walks over it.
+    // By blocks of 32 houses: how many entries are of lower blocks. A new name moves no more than 32 of these and 31 of `starts`.
+    blocks: Vec<u16>,
+    // By house, and once more behind the last: how many entries are of lower houses of its block.
+    // Lists and no arrays, since a gate, which holds them, goes by value.
     starts: Vec<u16>,
     ghost few: { vec_len entries ≤ 1024 },
     ghost space: { 1024 ≤ vec_capacity entries },
     ghost houses: { OfHouses entries.items },
-    ghost within: { vec_len starts ≤ 1025 },
-    ghost room: { 1025 ≤ vec_capacity starts },
-    ghost starting: { Starts starts.items entries.items },
-    ghost started: { Started starts.items entries.items },
+    ghost parted: { vec_len blocks ≡ 33 },
+    ghost whole: { vec_len starts ≡ 1025 },
+    ghost started: { Starts blocks.items starts.items entries.items },
 }
 
 #[derive(Drop)]

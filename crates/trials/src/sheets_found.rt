@@ -92,14 +92,14 @@ impl Finder {
         check(told == Ok(meant), "told otherwise")
     }
 
-    // The number of lines and the lines that are written, which hold.
+    // The number of lines and the lines that are written, which hold; and the house may.
     pub(crate) fn finds(&mut self, question: Question, meant: &[u8]) -> Result<(), Fail> {
         self.written(&question, meant)?;
         self.tells(&question, true)?;
         self.holds(&question, meant)
     }
 
-    // The house may not, and the request is left as it was.
+    // There is no sheet, and the request is left as it was; and the house may not.
     pub(crate) fn finds_none(&mut self, question: Question) -> Result<(), Fail> {
         let mut request = request_of(self.heap, b"")?;
         let found = self.find(&question, request.as_mut_slice());
