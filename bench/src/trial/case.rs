@@ -9,7 +9,7 @@ use crate::trial::damage::{damage, more_names};
 use crate::trial::sheets;
 use crate::trial::world::{Size, World};
 
-/// How many bytes of a delivery the proved programs hold when they take its first events.
+/// Two pieces of the proved programs: events that go across pieces stand round this place.
 const HELD: usize = 2 << 14;
 
 pub struct Case {
